@@ -1,0 +1,3 @@
+mod Falling
+mod Framing
+mod Whole
