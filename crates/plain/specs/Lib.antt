@@ -1,0 +1,13 @@
+pub mod Rule
+pub mod Orders
+pub mod Dealing
+pub mod Price
+pub mod Book
+pub mod Matching
+pub mod Matched
+pub mod Gate
+pub mod Sound
+pub mod Account
+pub mod Held
+pub mod Beyond
+pub mod Promises

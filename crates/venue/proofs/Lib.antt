@@ -1,0 +1,4 @@
+mod Turns
+mod Records
+mod Capped
+mod WholeRuns

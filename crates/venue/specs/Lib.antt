@@ -1,0 +1,5 @@
+pub mod Meaning
+pub mod Questions
+pub mod Caps
+pub mod Steps
+pub mod Runs

@@ -1,0 +1,5 @@
+// Venues, and lists of steps that are run through one.
+pub mod question;
+pub mod run;
+pub mod step;
+pub mod venue;
