@@ -13,7 +13,8 @@ pub struct Cancel {
 
 impl Cancel {
     pub fn member(&self) -> u8
-        ensures { λ r. ⌜ r ≡ now (self .entry) .member ⌝ ∗ ⌜ r ≤ 63 ⌝ }
+        ensures value { λ r. ⌜ r ≡ now (self .entry) .member ⌝ }
+        ensures range { λ r. ⌜ r ≤ 63 ⌝ }
     {
         self.member
     }

@@ -25,7 +25,8 @@ pub struct Entry {
 
 impl Entry {
     pub fn member(&self) -> u8
-        ensures { λ r. ⌜ r ≡ now (self .entry) .member ⌝ ∗ ⌜ r ≤ 63 ⌝ }
+        ensures value { λ r. ⌜ r ≡ now (self .entry) .member ⌝ }
+        ensures range { λ r. ⌜ r ≤ 63 ⌝ }
     {
         self.member
     }
@@ -43,19 +44,22 @@ impl Entry {
     }
 
     pub fn price(&self) -> u32
-        ensures { λ r. ⌜ r ≡ now (self .entry) .price ⌝ ∗ ⌜ 1 ≤ r ⌝ ∗ ⌜ r ≤ 100000 ⌝ }
+        ensures value { λ r. ⌜ r ≡ now (self .entry) .price ⌝ }
+        ensures range { λ r. ⌜ 1 ≤ r ⌝ ∗ ⌜ r ≤ 100000 ⌝ }
     {
         self.price
     }
 
     pub fn quantity(&self) -> u32
-        ensures { λ r. ⌜ r ≡ now (self .entry) .quantity ⌝ ∗ ⌜ 1 ≤ r ⌝ ∗ ⌜ r ≤ 50000 ⌝ }
+        ensures value { λ r. ⌜ r ≡ now (self .entry) .quantity ⌝ }
+        ensures range { λ r. ⌜ 1 ≤ r ⌝ ∗ ⌜ r ≤ 50000 ⌝ }
     {
         self.quantity
     }
 
     pub fn minimum(&self) -> u32
-        ensures { λ r. ⌜ r ≡ now (self .entry) .minimum ⌝ ∗ ⌜ r ≤ now (self .entry) .quantity ⌝ }
+        ensures value { λ r. ⌜ r ≡ now (self .entry) .minimum ⌝ }
+        ensures range { λ r. ⌜ r ≤ now (self .entry) .quantity ⌝ }
     {
         self.minimum
     }

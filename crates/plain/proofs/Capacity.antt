@@ -61,7 +61,7 @@ module _ (capacity : ℕ) (b : Book) (n : ℕ) where
       ltb-false (reach e b) (e .minimum) (subst (λ p. unreached p e b ≡ false) dealing passed)
 
 -- how many orders rest
-thinned-rest : (phase : Phase) (next : ℕ) {buys sells : List Order} (b : Book) → Thinned (b .buys) buys → Thinned (b .sells) sells →
+pub thinned-rest : (phase : Phase) (next : ℕ) {buys sells : List Order} (b : Book) → Thinned (b .buys) buys → Thinned (b .sells) sells →
     length (resting (record { phase = phase; next = next; buys = buys; sells = sells })) ≤ length (resting b)
 thinned-rest phase next {buys} {sells} b t u = omega (arith, thinned-few t, thinned-few u, length-append (b .buys) (b .sells), length-append buys sells)
 

@@ -43,7 +43,7 @@ module _ {rule : Rule} (lawful : Lawful rule) where
   ahead-is-no-worse side o x e f ahead better = both-ways (rule x o) (lawful .one-way o x ahead) (lawful .price-first x o (f ∙ sym e) (rw f better))
 
   -- an order ahead of x is within x's price
-  ahead-is-within : (side : Side) (o x : Order) → o .side ≡ side → x .side ≡ side → rule o x ≡ true → within (other side) (x .price) o ≡ true
+  pub ahead-is-within : (side : Side) (o x : Order) → o .side ≡ side → x .side ≡ side → rule o x ≡ true → within (other side) (x .price) o ≡ true
   ahead-is-within Buy o x e f ahead = le-leb (x .price) (o .price) (omega (arith, ahead-is-no-worse Buy o x e f ahead))
   ahead-is-within Sell o x e f ahead = le-leb (o .price) (x .price) (omega (arith, ahead-is-no-worse Sell o x e f ahead))
 

@@ -32,3 +32,5 @@ pub mod Fair
 pub mod Deals
 pub mod OneList
 pub mod Matched
+pub mod Crossing
+pub mod AnySteps

@@ -17,10 +17,10 @@ use Rattle.plain.specs.Sound.{AllLive}
 use Rattle.plain.proofs.Kept.{same-or-differ}
 
 -- p is as good a price as q, or better
-record AsGood (dealt gap : ℕ → ℕ) (p q : ℕ) : Type 0 where
-  most : dealt q ≤ dealt p
-  closest : dealt q ≡ dealt p → gap p ≤ gap q
-  lowest : dealt q ≡ dealt p → gap q ≡ gap p → p ≤ q
+pub record AsGood (dealt gap : ℕ → ℕ) (p q : ℕ) : Type 0 where
+  pub most : dealt q ≤ dealt p
+  pub closest : dealt q ≡ dealt p → gap p ≤ gap q
+  pub lowest : dealt q ≡ dealt p → gap q ≡ gap p → p ≤ q
 
 -- whether p is taken before q
 abbrev before : (dealt gap : ℕ → ℕ) → ℕ → ℕ → Bool
@@ -53,7 +53,7 @@ sell-is-step : {o : Order} {os : List Order} → List·Memᴰ o os → List·Mem
 sell-is-step (List·Memᴰ·head e) = List·Memᴰ·head (cc)
 sell-is-step (List·Memᴰ·tail m) = List·Memᴰ·tail (sell-is-step m)
 
-abbrev InRange : ℕ → Type 0
+abbrev pub InRange : ℕ → Type 0
 InRange p = (1 ≤ p) × (p ≤ 100000)
 
 buy-steps-in-range : (os : List Order) → All InRange (buySteps os)
@@ -75,11 +75,11 @@ supply-grows-at p k d = grind (arith, tells)
 
 module _ (buys sells : List Order) where
   -- as good a price for these orders
-  abbrev Here : ℕ → ℕ → Type 0
+  abbrev pub Here : ℕ → ℕ → Type 0
   Here = AsGood (volume buys sells) (imbalance buys sells)
 
   -- the first of some prices is as good as each of them
-  first-as-good : (p : ℕ) (qs : List ℕ) (x : ℕ) → List·Memᴰ x (p ∷ qs) → Here (first buys sells p qs) x
+  pub first-as-good : (p : ℕ) (qs : List ℕ) (x : ℕ) → List·Memᴰ x (p ∷ qs) → Here (first buys sells p qs) x
   first-as-good p [] x m = rw (List·Memᴰ·eq-of-singleton m) (as-good-when-alike refl refl (omega arith))
   first-as-good p (q ∷ qs) x m =
       cond-both (preferred buys sells q p) (first buys sells q qs) (first buys sells p qs) (λ w. Here w x)
@@ -95,13 +95,13 @@ module _ (buys sells : List Order) where
         ]
       ])
 
-  first-keeps : (P : ℕ → Type 0) (p : ℕ) (qs : List ℕ) → P p → All P qs → P (first buys sells p qs)
+  pub first-keeps : (P : ℕ → Type 0) (p : ℕ) (qs : List ℕ) → P p → All P qs → P (first buys sells p qs)
   first-keeps P p [] h hs = h
   first-keeps P p (q ∷ qs) h hs =
       cond-both (preferred buys sells q p) (first buys sells q qs) (first buys sells p qs) P (λ _. first-keeps P q qs (hs .0) (hs .1))
       (λ _. first-keeps P p qs h (hs .1))
 
-  abbrev steps : List ℕ
+  abbrev pub steps : List ℕ
   steps = buySteps buys ++ sellSteps sells
 
   -- a price at which neither demand nor supply changes is like the one below it
@@ -117,7 +117,7 @@ module _ (buys sells : List Order) where
       ]
 
   -- from a price down to the step at or below it nothing changes
-  best-as-good : (q : ℕ) → 1 ≤ q → q ≤ 100000 → Here (bestPrice buys sells) q
+  pub best-as-good : (q : ℕ) → 1 ≤ q → q ≤ 100000 → Here (bestPrice buys sells) q
   best-as-good zero low high = absurd (omega arith)
   best-as-good (suc zero) low high = first-as-good 1 steps 1 (List·Memᴰ·head refl)
   best-as-good (suc (suc p)) low high =

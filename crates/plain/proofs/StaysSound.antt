@@ -64,7 +64,7 @@ module _ {rule : Rule} (lawful : Lawful rule) where
         sides-apart = thinned-apart-left sells t (thinned-apart-right (b .buys) u (s .sides-apart));
       }
 
-  dealt-sound : (phase : Phase) (later : ℕ) (fs : List Fill) (b : Book) → b .next ≤ later → Sound rule b → Sound rule (dealtWith phase later fs b)
+  pub dealt-sound : (phase : Phase) (later : ℕ) (fs : List Fill) (b : Book) → b .next ≤ later → Sound rule b → Sound rule (dealtWith phase later fs b)
   dealt-sound phase later fs b h = thinned-sound phase later b h (settled-thins Buy fs (b .buys)) (settled-thins Sell fs (b .sells))
 
   put-sound : (side : Side) (o : Order) (b : Book) → LiveOrder side (b .next) o → NotNumbered (o .number) (b .buys) →

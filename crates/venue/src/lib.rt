@@ -1,4 +1,5 @@
 // Venues, and lists of steps that are run through one.
+pub mod book;
 pub mod question;
 pub mod run;
 pub mod step;

@@ -1,0 +1,12 @@
+pub mod Held
+pub mod Weighed
+pub mod Alike
+pub mod Shown
+pub mod OnSide
+pub mod Opposite
+pub mod Running
+pub mod First
+pub mod ByTurn
+pub mod Turns
+pub mod RunsOut
+pub mod Quoted

@@ -1,0 +1,4 @@
+pub mod Weights
+pub mod Scans
+pub mod Deals
+pub mod Quotes

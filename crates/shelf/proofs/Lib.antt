@@ -1,0 +1,11 @@
+pub mod Starts
+pub mod Gates
+pub mod Stepped
+pub mod Found
+pub mod Cancelled
+pub mod Serving
+pub mod Laying
+pub mod ServedEntry
+pub mod DealtEntry
+pub mod ServedCall
+pub mod Ranks

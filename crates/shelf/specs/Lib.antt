@@ -1,0 +1,3 @@
+pub mod Stands
+pub mod HeldGate
+pub mod Entering
