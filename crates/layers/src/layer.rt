@@ -59,6 +59,7 @@ pub trait Part {
 }
 
 // A part over a venue, which is a venue one higher.
+#[derive(Drop)]
 pub struct Layer<P, V> {
     part: P,
     below: V,
@@ -135,6 +136,7 @@ impl<P, V> Layer<P, V> {
 }
 
 // A venue that was refused its layer, and why.
+#[derive(Drop)]
 pub struct Refused<V> {
     pub cause: Cause,
     pub below: V,

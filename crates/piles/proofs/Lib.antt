@@ -1,0 +1,2 @@
+mod Thousand
+mod Runs
