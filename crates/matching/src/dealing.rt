@@ -9,6 +9,7 @@ use orders::order::Phase;
 use orders::request::Side;
 use ranking::place::Place;
 use ranking::places::Places;
+use ranking::places::put;
 use ranking::rank::Priority;
 
 // What is dealt: an entry's order with those opposite, or the buys with the sells at the price of a call.
@@ -60,7 +61,7 @@ fn reduced_by(o: &Order, quantity: u32) -> Place<Order>
 }
 
 // Deals tonnes of an entry's order with the first-ranked order opposite, if any.
-fn deal_opposite<L: Places, R: Priority>(
+fn deal_opposite<L: Places<Record = Order>, R: Priority>(
     list: &mut L,
     rule: &R,
     o: &Order,
@@ -70,24 +71,34 @@ fn deal_opposite<L: Places, R: Priority>(
 {
     let (i, x) = first_opposite(list, rule, o.side, o.price)?;
     let quantity = left.min(x.remaining);
-    list.put(i, reduced_by(&x, quantity));
+    put(list, i, reduced_by(&x, quantity));
     Some(fill_at(o.side, o, &x, quantity))
 }
 
 // Deals tonnes between the first-ranked buy and the first-ranked sell at a price, if any.
-fn deal_pair<L: Places, R: Priority>(list: &mut L, rule: &R, price: u32, left: u32) -> Option<Fill>
+fn deal_pair<L: Places<Record = Order>, R: Priority>(
+    list: &mut L,
+    rule: &R,
+    price: u32,
+    left: u32,
+) -> Option<Fill>
     ensures { λ r. ⌜ Turned (R·Ranking .ahead (now (rule .entry))) (Call price) left (L·Places .contents (now (list .entry))) (L·Places .contents (now (list .exit))) r ⌝ }
 {
     let (i, buy) = first_opposite(list, rule, Side::Sell, price)?;
     let (k, sell) = first_opposite(list, rule, Side::Buy, price)?;
     let quantity = left.min(buy.remaining).min(sell.remaining);
-    list.put(i, reduced_by(&buy, quantity));
-    list.put(k, reduced_by(&sell, quantity));
+    put(list, i, reduced_by(&buy, quantity));
+    put(list, k, reduced_by(&sell, quantity));
     Some(fill_of(&buy, &sell, price, quantity))
 }
 
 // One fill of what is left to deal, if there is anybody to deal with.
-fn deal_one<L: Places, R: Priority>(list: &mut L, rule: &R, deal: &Deal, left: u32) -> Option<Fill>
+fn deal_one<L: Places<Record = Order>, R: Priority>(
+    list: &mut L,
+    rule: &R,
+    deal: &Deal,
+    left: u32,
+) -> Option<Fill>
     ensures { λ r. ⌜ OneDeal (R·Ranking .ahead (now (rule .entry))) (now (deal .entry)) left (L·Places .contents (now (list .entry))) (L·Places .contents (now (list .exit))) r ⌝ }
 {
     if left == 0 {
@@ -100,7 +111,7 @@ fn deal_one<L: Places, R: Priority>(list: &mut L, rule: &R, deal: &Deal, left: u
 }
 
 // Deals so many tonnes one fill after another; says how many fills there are, and what is left.
-fn deal_out<L: Places, R: Priority>(
+fn deal_out<L: Places<Record = Order>, R: Priority>(
     list: &mut L,
     rule: &R,
     deal: &Deal,
@@ -123,7 +134,7 @@ fn deal_out<L: Places, R: Priority>(
 }
 
 // Deals an entry's order, if the book is dealing; says how many fills there are, and what is left.
-pub fn deal_entry<L: Places, R: Priority>(
+pub fn deal_entry<L: Places<Record = Order>, R: Priority>(
     list: &mut L,
     rule: &R,
     phase: Phase,
@@ -139,7 +150,7 @@ pub fn deal_entry<L: Places, R: Priority>(
 }
 
 // Deals tonnes between buys and sells at the price of a call; says how many fills there are.
-pub fn deal_call<L: Places, R: Priority>(
+pub fn deal_call<L: Places<Record = Order>, R: Priority>(
     list: &mut L,
     rule: &R,
     price: u32,

@@ -14,7 +14,7 @@ pub struct Quote {
     pub imbalance: u32,
 }
 
-fn quote_at<L: Places>(list: &L, price: u32) -> Quote
+fn quote_at<L: Places<Record = Order>>(list: &L, price: u32) -> Quote
     ensures { λ r. ⌜ r ≡ quoteAt (contents (now (list .entry))) price ⌝ }
 {
     let bought = tonnes_opposite(list, Side::Sell, price);
@@ -54,7 +54,7 @@ fn step_at(place: Place<Order>) -> Option<u32>
 }
 
 // The better of a quote and that at a price, if any.
-fn better_of<L: Places>(list: &L, best: Quote, step: Option<u32>) -> Quote
+fn better_of<L: Places<Record = Order>>(list: &L, best: Quote, step: Option<u32>) -> Quote
     ensures { λ r. ⌜ r ≡ betterOf (contents (now (list .entry))) best step ⌝ }
 {
     match step {
@@ -71,7 +71,7 @@ fn better_of<L: Places>(list: &L, best: Quote, step: Option<u32>) -> Quote
 }
 
 // The best quote for a call: of price 1 and of the prices at which what is dealt changes.
-pub fn best_quote<L: Places>(list: &L) -> Quote
+pub fn best_quote<L: Places<Record = Order>>(list: &L) -> Quote
     ensures { λ r. ⌜ r ≡ bestQuote (contents (now (list .entry))) ⌝ }
 {
     let mut best = quote_at(list, 1);

@@ -9,20 +9,21 @@ use orders::request::Side;
 use ranking::place::Place;
 use ranking::places::Places;
 use ranking::rank::Priority;
-use ranking::search::first_of_two;
+use ranking::search::Test;
+use ranking::search::first_where;
 
 // Makes every place vacant.
-pub fn clear<L: Places>(list: &mut L)
+pub fn clear<L: Places<Record = Order>>(list: &mut L)
     ensures length { λ _. ⌜ length (contents (now (list .exit))) ≡ length (contents (now (list .entry))) ⌝ }
     ensures vacant { λ _. ⌜ AllVacant (contents (now (list .exit))) (length (contents (now (list .entry)))) ⌝ }
 {
     for i in 0..list.len() {
-        list.put(i, Place::Vacant);
+        list.vacate(i);
     }
 }
 
 // A vacant place, if there is one.
-pub fn vacant<L: Places>(list: &L) -> Option<usize>
+pub fn vacant<L: Places<Record = Order>>(list: &L) -> Option<usize>
     ensures { λ r. ⌜ VacantIn (contents (now (list .entry))) (length (contents (now (list .entry)))) r ⌝ }
 {
     for i in 0..list.len() {
@@ -34,7 +35,7 @@ pub fn vacant<L: Places>(list: &L) -> Option<usize>
 }
 
 // The order of a number, if it is held, and its place.
-pub fn numbered<L: Places>(list: &L, number: u32) -> Option<(usize, Order)>
+pub fn numbered<L: Places<Record = Order>>(list: &L, number: u32) -> Option<(usize, Order)>
     ensures { λ r. ⌜ NumberedIn number (contents (now (list .entry))) (length (contents (now (list .entry)))) r ⌝ }
 {
     for i in 0..list.len() {
@@ -76,7 +77,7 @@ fn add_opposite(sum: u32, side: Side, limit: u32, place: Place<Order>) -> u32
 }
 
 // The tonnes that rest opposite, or the largest number if they are more.
-pub fn tonnes_opposite<L: Places>(list: &L, side: Side, limit: u32) -> u32
+pub fn tonnes_opposite<L: Places<Record = Order>>(list: &L, side: Side, limit: u32) -> u32
     ensures { λ r. ⌜ r ≡ capped (heldWeight (tonnesIf (opposite side limit)) (contents (now (list .entry)))) ⌝ }
 {
     let mut sum = 0;
@@ -86,8 +87,23 @@ pub fn tonnes_opposite<L: Places>(list: &L, side: Side, limit: u32) -> u32
     sum
 }
 
+// The orders that rest opposite.
+#[derive(Clone, Copy)]
+struct Opposite {
+    side: Side,
+    limit: u32,
+}
+
+impl Test<Order> for Opposite as OppositeTest {
+    ghost passing = { λ s. opposite (s .side) (s .limit) };
+
+    fn passes(&self, o: &Order) -> bool {
+        is_opposite(self.side, self.limit, o)
+    }
+}
+
 // The first-ranked order opposite, if any, and its place.
-pub fn first_opposite<L: Places, R: Priority>(
+pub fn first_opposite<L: Places<Record = Order>, R: Priority>(
     list: &L,
     rule: &R,
     side: Side,
@@ -95,16 +111,7 @@ pub fn first_opposite<L: Places, R: Priority>(
 ) -> Option<(usize, Order)>
     ensures { λ r. ⌜ FirstIn (opposite side limit) (R·Ranking .ahead (now (rule .entry))) (L·Places .contents (now (list .entry))) (length (L·Places .contents (now (list .entry)))) r ⌝ }
 {
-    rule.is_total();
-    let mut found: Option<(usize, Order)> = None;
-    for i in 0..list.len() {
-        if let Place::Holding(o) = list.get(i) {
-            if is_opposite(side, limit, &o) {
-                found = first_of_two(rule, found, i, o);
-            }
-        }
-    }
-    found
+    first_where(list, rule, &Opposite { side, limit })
 }
 
 fn is_same_side(a: Side, b: Side) -> bool
@@ -136,7 +143,7 @@ fn one_ahead<R: Priority>(rule: &R, o: &Order, place: Place<Order>) -> usize
 }
 
 // How many orders of an order's side are ahead of it.
-fn count_ahead<L: Places, R: Priority>(list: &L, rule: &R, o: &Order) -> usize
+fn count_ahead<L: Places<Record = Order>, R: Priority>(list: &L, rule: &R, o: &Order) -> usize
     ensures { λ r. ⌜ r ≡ heldWeight (aheadOf (R·Ranking .ahead (now (rule .entry))) (now (o .entry))) (L·Places .contents (now (list .entry))) ⌝ }
 {
     let mut n: usize = 0;
@@ -147,7 +154,7 @@ fn count_ahead<L: Places, R: Priority>(list: &L, rule: &R, o: &Order) -> usize
 }
 
 // The order of a side with so many ahead of it, if any.
-pub fn with_ahead<L: Places, R: Priority>(
+pub fn with_ahead<L: Places<Record = Order>, R: Priority>(
     list: &L,
     rule: &R,
     side: Side,

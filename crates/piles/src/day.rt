@@ -12,6 +12,7 @@ use layers::layer::Layer;
 use layers::layer::LayerVenue;
 use layers::layer::binds_as_below;
 use layers::layer::stack;
+use orders::order::Order;
 use orders::refusal::Cause;
 use ranked::book::open;
 use ranked::serve::RankedVenue;
@@ -53,7 +54,7 @@ fn run_over<V: Venue + Drop>(book: V, steps: &mut [Step]) -> Result<(), Cause>
 }
 
 // Runs steps through the day's pile over a ranked book.
-pub fn run_ranked<L: Places + Drop, R: Priority + Drop>(
+pub fn run_ranked<L: Places<Record = Order> + Drop, R: Priority + Drop>(
     list: L,
     rule: R,
     steps: &mut [Step],
@@ -67,7 +68,7 @@ pub fn run_ranked<L: Places + Drop, R: Priority + Drop>(
 }
 
 // The same over a shelf book.
-pub fn run_shelf<L: Places + Drop, R: Priority + Drop>(
+pub fn run_shelf<L: Places<Record = Order> + Drop, R: Priority + Drop>(
     list: L,
     rule: R,
     steps: &mut [Step],

@@ -6,6 +6,7 @@ ghost use Rattle.venue.specs.Meaning.{bookSetup};
 ghost use Rattle.venue.specs.Books.{Opened, HandedBack};
 ghost use Rattle.ranked.specs.Standing.{Stands};
 use crate::state::State;
+use orders::order::Order;
 use orders::order::Phase;
 use orders::refusal::Cause;
 use ranking::place::Place;
@@ -23,17 +24,20 @@ pub struct Ranked<L, R> {
 }
 
 // Makes every place vacant.
-fn vacate<L: Places>(list: &mut L, len: usize)
+fn vacate<L: Places<Record = Order>>(list: &mut L, len: usize)
     requires { ⌜ len ≡ length (L·Places .contents (now list)) ⌝ }
     ensures { λ _. ⌜ L·Places .contents (now (list .exit)) ≡ replicate len Vacant ⌝ }
 {
     for i in 0..len {
-        list.put(i, Place::Vacant);
+        list.vacate(i);
     }
 }
 
 // A book with no orders, unless the list has no place or more than 1024.
-pub fn open<L: Places, R: Priority>(mut list: L, rule: R) -> Result<Ranked<L, R>, Refused<L, R>>
+pub fn open<L: Places<Record = Order>, R: Priority>(
+    mut list: L,
+    rule: R,
+) -> Result<Ranked<L, R>, Refused<L, R>>
     ensures { λ r. ⌜ Cases r (λ b. Opened (R·Ranking .ahead rule) (length (L·Places .contents list)) (bookSetup (R·Ranking .ahead (b .rule)) (b .state .capacity)) (Stands (R·Ranking .ahead (b .rule)) (L·Places .contents (b .list)) (b .state))) (λ u. HandedBack (length (L·Places .contents list)) list rule u) ⌝ }
 {
     let capacity = list.len();

@@ -12,6 +12,7 @@ use crate::state::State;
 use orders::answer::Answer;
 use orders::answer::Called;
 use orders::order::Fill;
+use orders::order::Order;
 use orders::order::Phase;
 use orders::refusal::Cause;
 use ranking::places::Places;
@@ -19,7 +20,7 @@ use ranking::rank::Priority;
 use ranking::rank::Ranking;
 
 // Makes a call, or refuses it and changes nothing.
-pub fn call<L: Places, R: Priority>(
+pub fn call<L: Places<Record = Order>, R: Priority>(
     list: &mut L,
     rule: &R,
     mut state: State,

@@ -15,11 +15,17 @@ use crate::state::Crossing;
 use crate::state::State;
 use crate::state::Turns;
 use orders::order::Fill;
+use orders::order::Order;
 use orders::request::Side;
 use ranking::places::Places;
 
 // Deals up to n tonnes between the best buy and the best sell, if there are both.
-fn cross<L: Places>(list: &mut L, state: State, price: u32, n: u32) -> Option<Crossing>
+fn cross<L: Places<Record = Order>>(
+    list: &mut L,
+    state: State,
+    price: u32,
+    n: u32,
+) -> Option<Crossing>
     ensures few { λ r. ⌜ BySome r (Unit {0}) (λ p. (p .state .capacity ≡ state .capacity) × (p .state .buys + p .state .sells ≤ state .buys + state .sells) × (p .fill .quantity ≤ n)) ⌝ }
     ensures taken { λ r. ⌜ ((b : Book) → Lies (L·Places .contents (now (list .entry))) state b → CrossTaken price n b (L·Places .contents (now (list .exit))) r) ⌝ }
 {
@@ -40,7 +46,7 @@ fn cross<L: Places>(list: &mut L, state: State, price: u32, n: u32) -> Option<Cr
 }
 
 // Deals n tonnes between the best orders of the two sides, fill by fill, at a price.
-pub fn crossed<L: Places>(
+pub fn crossed<L: Places<Record = Order>>(
     list: &mut L,
     mut state: State,
     price: u32,

@@ -25,7 +25,13 @@ use ranking::place::Place;
 use ranking::places::Places;
 
 // Writes what remains of the best order of a side.
-fn reduce<L: Places>(list: &mut L, state: &State, side: Side, mut order: Order, remaining: u32)
+fn reduce<L: Places<Record = Order>>(
+    list: &mut L,
+    state: &State,
+    side: Side,
+    mut order: Order,
+    remaining: u32,
+)
     ensures { λ _. ⌜ ((b c : Book) (later : List Order) → Lies (L·Places .contents (now (list .entry))) (now (state .entry)) b → sideOf side b ≡ order ∷ later → sideOf side c ≡ with-remaining order remaining ∷ later → sideOf (other side) c ≡ sideOf (other side) b → c .phase ≡ b .phase → c .next ≡ b .next → Lies (L·Places .contents (now (list .exit))) (now (state .entry)) c) ⌝ }
 {
     let n = tally(state, side);
@@ -34,7 +40,12 @@ fn reduce<L: Places>(list: &mut L, state: &State, side: Side, mut order: Order, 
 }
 
 // Deals up to n tonnes with the best order of a side, if there is one.
-pub fn turn<L: Places>(list: &mut L, state: State, side: Side, n: u32) -> Option<Turn>
+pub fn turn<L: Places<Record = Order>>(
+    list: &mut L,
+    state: State,
+    side: Side,
+    n: u32,
+) -> Option<Turn>
     ensures few { λ r. ⌜ BySome r (Unit {0}) (λ p. (p .state .capacity ≡ state .capacity) × (p .state .buys + p .state .sells ≤ state .buys + state .sells) × (p .tonnes ≤ n)) ⌝ }
     ensures taken { λ r. ⌜ ((b : Book) → Lies (L·Places .contents (now (list .entry))) state b → TurnTaken side n b (L·Places .contents (now (list .entry))) (L·Places .contents (now (list .exit))) r) ⌝ }
 {
@@ -84,7 +95,7 @@ fn fill_of(entry: &Entry, number: u32, resting: &Order, tonnes: u32) -> Fill
 }
 
 // Deals n tonnes of an entry with the best orders of the other side, in turn.
-pub fn deal<L: Places>(
+pub fn deal<L: Places<Record = Order>>(
     list: &mut L,
     mut state: State,
     taker: &Entry,

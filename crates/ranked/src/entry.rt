@@ -29,7 +29,7 @@ use ranking::rank::Priority;
 use ranking::rank::Ranking;
 
 // What is left of an entry after its fills rests, unless it is to be killed.
-fn conclude<L: Places, R: Priority>(
+fn conclude<L: Places<Record = Order>, R: Priority>(
     list: &mut L,
     rule: &R,
     state: State,
@@ -80,7 +80,7 @@ fn conclude<L: Places, R: Priority>(
 }
 
 // The tonnes that an entry deals.
-fn dealable<L: Places>(list: &L, state: &State, entry: &Entry) -> u32
+fn dealable<L: Places<Record = Order>>(list: &L, state: &State, entry: &Entry) -> u32
     ensures fits { λ r. ⌜ r ≤ now (entry .entry) .quantity ⌝ }
     ensures deals { λ r. ⌜ ((b : Book) → Lies (L·Places .contents (now (list .entry))) (now (state .entry)) b → r ≡ min (now (entry .entry) .quantity) (reachOf (now (entry .entry)) b)) ⌝ }
 {
@@ -94,7 +94,7 @@ fn dealable<L: Places>(list: &L, state: &State, entry: &Entry) -> u32
 }
 
 // Admits an entry, or refuses it and changes nothing.
-pub fn enter<L: Places, R: Priority>(
+pub fn enter<L: Places<Record = Order>, R: Priority>(
     list: &mut L,
     rule: &R,
     mut state: State,

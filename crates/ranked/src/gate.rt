@@ -44,7 +44,7 @@ fn tonnes_within(place: Place<Order>, side: Side, limit: u32) -> u32
 }
 
 // The tonnes within a limit from a place on.
-pub fn sum_within<L: Places>(
+pub fn sum_within<L: Places<Record = Order>>(
     list: &L,
     seer: Side,
     start: usize,
@@ -63,7 +63,7 @@ pub fn sum_within<L: Places>(
 }
 
 // The tonnes in an entry's reach.
-pub fn reach<L: Places>(list: &L, state: &State, entry: &Entry) -> u64
+pub fn reach<L: Places<Record = Order>>(list: &L, state: &State, entry: &Entry) -> u64
     ensures { λ r. ⌜ ((b : Book) → Lies (L·Places .contents (now (list .entry))) (now (state .entry)) b → r ≡ reachOf (now (entry .entry)) b) ⌝ }
 {
     let side = entry.side();
@@ -96,7 +96,7 @@ fn early(phase: Phase, entry: &Entry) -> bool
     }
 }
 
-fn unreached<L: Places>(list: &L, state: &State, entry: &Entry) -> bool
+fn unreached<L: Places<Record = Order>>(list: &L, state: &State, entry: &Entry) -> bool
     ensures { λ r. ⌜ ((b : Book) → Lies (L·Places .contents (now (list .entry))) (now (state .entry)) b → r ≡ isUnreached (b .phase) (now (entry .entry)) b) ⌝ }
 {
     match state.phase {
@@ -106,7 +106,12 @@ fn unreached<L: Places>(list: &L, state: &State, entry: &Entry) -> bool
 }
 
 // What every book refuses of an entry.
-pub fn refused<L: Places>(list: &L, state: &State, entry: &Entry, room: usize) -> Option<Cause>
+pub fn refused<L: Places<Record = Order>>(
+    list: &L,
+    state: &State,
+    entry: &Entry,
+    room: usize,
+) -> Option<Cause>
     ensures safe { λ r. ⌜ (r ≡ None → (now (state .entry) .buys + now (state .entry) .sells < now (state .entry) .capacity) × (now (state .entry) .next ≤ 999999) × (now (state .entry) .capacity ≤ room)) ⌝ }
     ensures refused { λ r. ⌜ ((b : Book) → Lies (L·Places .contents (now (list .entry))) (now (state .entry)) b → r ≡ refusedBy (now (state .entry) .capacity) b (Enter (now (entry .entry))) room) ⌝ }
 {

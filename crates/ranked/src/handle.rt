@@ -18,6 +18,7 @@ use orders::answer::Answer;
 use orders::answer::Withdrawn;
 use orders::cancel::Cancel;
 use orders::order::Fill;
+use orders::order::Order;
 use orders::order::Phase;
 use orders::refusal::Cause;
 use orders::request::Request;
@@ -25,7 +26,11 @@ use ranking::places::Places;
 use ranking::rank::Priority;
 use ranking::rank::Ranking;
 
-pub fn withdraw<L: Places>(list: &mut L, state: State, cancel: &Cancel) -> Result<Done, Cause>
+pub fn withdraw<L: Places<Record = Order>>(
+    list: &mut L,
+    state: State,
+    cancel: &Cancel,
+) -> Result<Done, Cause>
     ensures capacity { λ r. ⌜ made r (λ d. d .state .capacity ≡ state .capacity) ⌝ }
     ensures handled { λ r. ⌜ ((rule : Rule) (b : Book) (lent : List Fill) → Lies (L·Places .contents (now (list .entry))) state b → Sound rule b → Handled rule b (Withdraw (now (cancel .entry))) state (L·Places .contents (now (list .entry))) (L·Places .contents (now (list .exit))) lent lent r) ⌝ }
 {
@@ -49,7 +54,7 @@ pub fn withdraw<L: Places>(list: &mut L, state: State, cancel: &Cancel) -> Resul
     })
 }
 
-pub fn halt<L: Places>(list: &L, mut state: State) -> Result<Done, Cause>
+pub fn halt<L: Places<Record = Order>>(list: &L, mut state: State) -> Result<Done, Cause>
     ensures capacity { λ r. ⌜ made r (λ d. d .state .capacity ≡ state .capacity) ⌝ }
     ensures handled { λ r. ⌜ ((rule : Rule) (b : Book) (lent : List Fill) → Lies (L·Places .contents (now (list .entry))) state b → Handled rule b Halt state (L·Places .contents (now (list .entry))) (L·Places .contents (now (list .entry))) lent lent r) ⌝ }
 {
@@ -65,7 +70,7 @@ pub fn halt<L: Places>(list: &L, mut state: State) -> Result<Done, Cause>
 }
 
 // Answers a request, or refuses it and changes nothing.
-pub fn handle<L: Places, R: Priority>(
+pub fn handle<L: Places<Record = Order>, R: Priority>(
     list: &mut L,
     rule: &R,
     state: State,

@@ -77,7 +77,12 @@ fn pass_sell(sweep: Sweep, sell: &Order) -> Sweep
 }
 
 // The lowest buy that is left, if its price is below the limit.
-fn next_buy<L: Places>(list: &L, state: &State, passed: usize, limit: u32) -> Option<Order>
+fn next_buy<L: Places<Record = Order>>(
+    list: &L,
+    state: &State,
+    passed: usize,
+    limit: u32,
+) -> Option<Order>
     ensures left { λ r. ⌜ BySome r (Unit {0}) (λ _. passed < now (state .entry) .buys) ⌝ }
     ensures next { λ r. ⌜ ((b : Book) (below above : List Order) → Lies (L·Places .contents (now (list .entry))) (now (state .entry)) b → reverse (b .buys) ≡ below ++ above → passed ≡ length below → NextBuy limit above r) ⌝ }
 {
@@ -91,7 +96,12 @@ fn next_buy<L: Places>(list: &L, state: &State, passed: usize, limit: u32) -> Op
 }
 
 // Passes the buys whose price is below the limit.
-fn pass_buys<L: Places>(list: &L, state: &State, mut sweep: Sweep, limit: u32) -> Sweep
+fn pass_buys<L: Places<Record = Order>>(
+    list: &L,
+    state: &State,
+    mut sweep: Sweep,
+    limit: u32,
+) -> Sweep
     ensures { λ r. ⌜ ((b : Book) (sold unsold : List Order) → Lies (L·Places .contents (now (list .entry))) (now (state .entry)) b → SweptBy b sold unsold sweep → limit ≤ 100000 → All (λ o. limit ≤ o .price) unsold → PassedTo limit b sold unsold r) ⌝ }
 {
     while let Some(buy) = next_buy(list, state, sweep.passed, limit) {
@@ -101,7 +111,12 @@ fn pass_buys<L: Places>(list: &L, state: &State, mut sweep: Sweep, limit: u32) -
 }
 
 // Passes the order in a place, after the buys below it.
-fn pass_place<L: Places>(list: &L, state: &State, sweep: Sweep, place: Place<Order>) -> Sweep
+fn pass_place<L: Places<Record = Order>>(
+    list: &L,
+    state: &State,
+    sweep: Sweep,
+    place: Place<Order>,
+) -> Sweep
     ensures { λ r. ⌜ ((b : Book) (sold : List Order) (y : Order) (later : List Order) → Lies (L·Places .contents (now (list .entry))) (now (state .entry)) b → place ≡ Holding y → SweptBy b sold (y ∷ later) sweep → SweptBy b (sold ++ y ∷ []) later r) ⌝ }
 {
     match place {
@@ -111,7 +126,7 @@ fn pass_place<L: Places>(list: &L, state: &State, sweep: Sweep, place: Place<Ord
 }
 
 // The tonnes of the buys, or the most that the number holds.
-fn bought<L: Places>(list: &L, state: &State) -> u32
+fn bought<L: Places<Record = Order>>(list: &L, state: &State) -> u32
     ensures { λ r. ⌜ ((b : Book) → Lies (L·Places .contents (now (list .entry))) (now (state .entry)) b → r ≡ min (demand (b .buys) (b .sells) 1) (2 ^ 32 - 1)) ⌝ }
 {
     let capacity = state.capacity;
@@ -131,7 +146,7 @@ fn bought<L: Places>(list: &L, state: &State) -> u32
 }
 
 // The best price of a call, by one sweep up the prices of both sides.
-pub fn quote<L: Places>(list: &L, state: &State) -> Quote
+pub fn quote<L: Places<Record = Order>>(list: &L, state: &State) -> Quote
     ensures { λ r. ⌜ ((rule : Rule) (b : Book) → Lawful rule → Lies (L·Places .contents (now (list .entry))) (now (state .entry)) b → Sound rule b → (r .price ≡ callPrice (b .buys) (b .sells)) × (r .volume ≡ callVolume (b .buys) (b .sells))) ⌝ }
 {
     let capacity = state.capacity;

@@ -47,7 +47,7 @@ fn close(state: &mut State, outcome: Result<Done, Cause>) -> Result<Answer, Refu
 }
 
 // A book is a venue at the bottom of a pile, and refuses exactly what every book refuses.
-pub impl<L: Places, R: Priority> Venue for Ranked<L, R> as RankedVenue {
+pub impl<L: Places<Record = Order>, R: Priority> Venue for Ranked<L, R> as RankedVenue {
     ghost setup = { λ s. bookSetup (R·Ranking .ahead (s .rule)) (s .state .capacity) };
 
     ghost stands = { λ s. Stands (R·Ranking .ahead (s .rule)) (L·Places .contents (s .list)) (s .state) };

@@ -52,7 +52,12 @@ fn occupied(place: Place<Order>) -> Option<Order>
 }
 
 // The order of a rank.
-pub fn at_rank<L: Places>(list: &L, state: &State, side: Side, rank: usize) -> Option<Order>
+pub fn at_rank<L: Places<Record = Order>>(
+    list: &L,
+    state: &State,
+    side: Side,
+    rank: usize,
+) -> Option<Order>
     ensures { λ r. ⌜ ((b : Book) → Lies (L·Places .contents (now (list .entry))) (now (state .entry)) b → r ≡ ranked rank (sideOf side b)) ⌝ }
 {
     let n = tally(state, side);
@@ -63,7 +68,12 @@ pub fn at_rank<L: Places>(list: &L, state: &State, side: Side, rank: usize) -> O
 }
 
 // Puts an order in its place among those of its side.
-pub fn rest<L: Places, R: Priority>(list: &mut L, rule: &R, state: State, order: Order) -> State
+pub fn rest<L: Places<Record = Order>, R: Priority>(
+    list: &mut L,
+    rule: &R,
+    state: State,
+    order: Order,
+) -> State
     requires { ⌜ state .buys + state .sells < state .capacity ⌝ }
     ensures recounted { λ r. ⌜ Recounted (order .side) (count (order .side) state + 1) state r ⌝ }
     ensures lies { λ r. ⌜ ((b : Book) → Lies (L·Places .contents (now (list .entry))) state b → Lies (L·Places .contents (now (list .exit))) r (putIn (R·Ranking .ahead (now (rule .entry))) (order .side) order b)) ⌝ }
@@ -81,7 +91,12 @@ pub fn rest<L: Places, R: Priority>(list: &mut L, rule: &R, state: State, order:
 }
 
 // Takes the order at a place out of those of its side.
-pub fn take_out<L: Places>(list: &mut L, state: State, side: Side, i: usize) -> State
+pub fn take_out<L: Places<Record = Order>>(
+    list: &mut L,
+    state: State,
+    side: Side,
+    i: usize,
+) -> State
     ensures recounted { λ r. ⌜ Recounted side (count side state - 1) state r ⌝ }
     ensures lies { λ r. ⌜ ((b c : Book) (earlier : List Order) (o : Order) (later : List Order) → Lies (L·Places .contents (now (list .entry))) state b → sideOf side b ≡ earlier ++ o ∷ later → length earlier + (state .capacity - count side state) ≡ i → sideOf side c ≡ earlier ++ later → sideOf (other side) c ≡ sideOf (other side) b → c .phase ≡ b .phase → c .next ≡ b .next → Lies (L·Places .contents (now (list .exit))) r c) ⌝ }
 {
@@ -91,7 +106,7 @@ pub fn take_out<L: Places>(list: &mut L, state: State, side: Side, i: usize) -> 
 }
 
 // Where the order of a number rests.
-pub fn spot<L: Places>(list: &L, state: &State, number: u32) -> Option<Spot>
+pub fn spot<L: Places<Record = Order>>(list: &L, state: &State, number: u32) -> Option<Spot>
     ensures { λ r. ⌜ ((b : Book) → Lies (L·Places .contents (now (list .entry))) (now (state .entry)) b → FoundIn number (now (state .entry)) b r) ⌝ }
 {
     let capacity = state.capacity;

@@ -35,12 +35,12 @@ pub fn left_of(e: &Entry, number: u32, left: u32) -> Order
 }
 
 // Puts an order in a vacant place, if it rests.
-pub fn lay<L: Places>(list: &mut L, life: Life, o: Order)
+pub fn lay<L: Places<Record = Order>>(list: &mut L, life: Life, o: Order)
     ensures { λ _. ⌜ Laid life o (contents (now (list .entry))) (contents (now (list .exit))) ⌝ }
 {
     if may_rest(life) && o.remaining > 0 {
         if let Some(i) = vacant(list) {
-            list.put(i, Place::Holding(o));
+            list.hold(i, o);
         }
     }
 }

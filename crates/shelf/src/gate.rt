@@ -4,6 +4,7 @@ ghost use Rattle.shelf.specs.HeldGate.{isFull, fallsShort, entryRefusal, callR
 use matching::scan::tonnes_opposite;
 use matching::scan::vacant;
 use orders::entry::Entry;
+use orders::order::Order;
 use orders::order::Phase;
 use orders::refusal::Cause;
 use orders::request::Life;
@@ -28,7 +29,7 @@ fn is_early(phase: Phase, e: &Entry) -> bool
     }
 }
 
-fn is_full<L: Places>(list: &L) -> bool
+fn is_full<L: Places<Record = Order>>(list: &L) -> bool
     ensures { λ r. ⌜ r ≡ isFull (contents (now (list .entry))) ⌝ }
 {
     match vacant(list) {
@@ -38,7 +39,7 @@ fn is_full<L: Places>(list: &L) -> bool
 }
 
 // Whether an entry finds less than its minimum.
-fn falls_short<L: Places>(list: &L, phase: Phase, e: &Entry) -> bool
+fn falls_short<L: Places<Record = Order>>(list: &L, phase: Phase, e: &Entry) -> bool
     ensures { λ r. ⌜ r ≡ fallsShort phase (now (e .entry)) (contents (now (list .entry))) ⌝ }
 {
     match phase {
@@ -48,7 +49,7 @@ fn falls_short<L: Places>(list: &L, phase: Phase, e: &Entry) -> bool
 }
 
 // Why an entry with a fill list of a length is refused, if it is.
-pub fn entry_refusal<L: Places>(
+pub fn entry_refusal<L: Places<Record = Order>>(
     list: &L,
     phase: Phase,
     next: u32,
@@ -73,7 +74,7 @@ pub fn entry_refusal<L: Places>(
 }
 
 // Why a call with a fill list of a length is refused, if it is.
-pub fn call_refusal<L: Places>(list: &L, phase: Phase, room: usize) -> Option<Cause>
+pub fn call_refusal<L: Places<Record = Order>>(list: &L, phase: Phase, room: usize) -> Option<Cause>
     ensures { λ r. ⌜ r ≡ callRefusal (contents (now (list .entry))) phase room ⌝ }
 {
     if room < list.len() {

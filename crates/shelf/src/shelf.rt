@@ -46,7 +46,7 @@ pub struct Shelf<L, R> {
     is_new: bool,
 }
 
-impl<L: Places, R: Priority> Shelf<L, R> {
+impl<L: Places<Record = Order>, R: Priority> Shelf<L, R> {
     // An empty book over places of which there are 1 to 1,024, or hands them back.
     pub fn over(mut list: L, rule: R) -> Result<Shelf<L, R>, Refused<L, R>>
         ensures { λ r. ⌜ Cases r (λ s. Opened (R·Ranking .ahead rule) (length (L·Places .contents list)) (shelfSetup (L·Places .contents) (R·Ranking .ahead) s) (ShelfStands (L·Places .contents) (R·Ranking .ahead) s)) (λ u. HandedBack (length (L·Places .contents list)) list rule u) ⌝ }
@@ -88,7 +88,7 @@ impl<L: Places, R: Priority> Shelf<L, R> {
                         height: Some(0),
                     });
                 }
-                self.list.put(i, Place::Vacant);
+                self.list.vacate(i);
                 self.is_new = false;
                 Ok(Answer::Withdrawn(Withdrawn {
                     number,
@@ -183,7 +183,7 @@ impl<L: Places, R: Priority> Shelf<L, R> {
     }
 }
 
-pub impl<L: Places, R: Priority> Venue for Shelf<L, R> as ShelfVenue {
+pub impl<L: Places<Record = Order>, R: Priority> Venue for Shelf<L, R> as ShelfVenue {
     ghost setup = { λ s. shelfSetup (L·Places .contents) (R·Ranking .ahead) s };
 
     ghost stands = { λ s. ShelfStands (L·Places .contents) (R·Ranking .ahead) s };

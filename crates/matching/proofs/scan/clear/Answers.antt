@@ -11,5 +11,5 @@ pub loop-i-again : need.loop-i-again
 loop-i-again g c =
     let ps = g .L·Places .contents (c .loop-i .list) in
     let inside : c .loop-i .i < length ps = omega (arith, c .loop-i .inv .0, c .len-i-end .ensures) in
-    subst (λ qs. (length qs ≡ length (g .L·Places .contents (c .args .list .now))) × AllVacant qs (c .loop-i .i + 1)) (sym (c .put .ensures))
+    subst (λ qs. (length qs ≡ length (g .L·Places .contents (c .args .list .now))) × AllVacant qs (c .loop-i .i + 1)) (sym (c .vacate .ensures))
     (length-set ps (c .loop-i .i) Vacant ∙ c .loop-i .inv .0, vacant-more ps (c .loop-i .i) inside (c .loop-i .inv .1))

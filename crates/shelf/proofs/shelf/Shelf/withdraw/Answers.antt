@@ -45,7 +45,7 @@ returns-else-o-member g c =
     let rule = g .R·Ranking .ahead (c .args .self .now .rule) in
     let ps = g .L·Places .contents (c .args .self .now .list) in
     let s0 : ℕ × Order = (c .in-Some .i, c .in-Some .o) in
-    let same : length (g .L·Places .contents (c .put .last .self)) ≡ length ps = ap length (c .put .ensures) ∙ length-set ps (c .in-Some .i) Vacant in
+    let same : length (g .L·Places .contents (c .vacate .last .self)) ≡ length ps = ap length (c .vacate .ensures) ∙ length-set ps (c .in-Some .i) Vacant in
     let found = subst (λ n. NumberedIn n ps (length ps) (Some s0)) (c .number-number .ensures) (c .in-Some .ensures tt) in
     record {
       same = record { same-rule = refl; same-places = same };
@@ -54,7 +54,7 @@ returns-else-o-member g c =
           served-so t s (Withdraw (c .args .c .now)) lent _ _ _ _ _
           (cancel-his (after rule t) sound (s .shows) (c .args .c .now) s0 found (c .if-o-member .left ∙ c .member .ensures .value) (length lent))
           same
-          (subst (λ qs. Shows qs (c .args .self .now .phase) (c .args .self .now .next) (reply rule (after rule t) (Withdraw (c .args .c .now)) .book)) (sym (c .put .ensures)) (cancel-shows (after rule t) sound (s .shows) (c .args .c .now) s0 found))
+          (subst (λ qs. Shows qs (c .args .self .now .phase) (c .args .self .now .next) (reply rule (after rule t) (Withdraw (c .args .c .now)) .book)) (sym (c .vacate .ensures)) (cancel-shows (after rule t) sound (s .shows) (c .args .c .now) s0 found))
           (ap (λ n. Withdrawn (record { number = n; side = c .in-Some .o .side; tonnes = c .in-Some .o .remaining })) (c .number-number .ensures) ∙ cancel-answer (after rule t) sound (s .shows) (c .args .c .now) s0 found)
           (cancel-list (after rule t) sound (s .shows) (c .args .c .now) s0 found lent);
     }
