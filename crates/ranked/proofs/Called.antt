@@ -23,17 +23,17 @@ use Rattle.plain.specs.Orders.{keep, total, within}
 use Rattle.plain.specs.Dealing.{takes, paired, names, dealt, settled}
 use Rattle.plain.specs.Price.{callPrice, callVolume}
 use Rattle.plain.specs.Book.{Book, side, dealtWith, callBuyers, callFills}
-use Rattle.plain.specs.Sound.{LiveOrder, AllLive, Distinct, Sound}
+use Rattle.plain.specs.Sound.{AllLive, Distinct, Sound}
 use Rattle.plain.specs.Gate.{refusedBy}
 use Rattle.plain.proofs.Call.{call-fits}
 use Rattle.plain.proofs.FewFills.{fills-are-few}
-use Rattle.ranked.specs.declared.state.State.{State}
+use Rattle.lineup.specs.declared.state.State.{State}
 use Rattle.ranked.specs.declared.state.Crossing.{Crossing}
-use Rattle.ranked.specs.Standing.{Lies}
+use Rattle.lineup.specs.Lying.{Lies}
 use Rattle.ranked.specs.Handling.{Accepted}
 use Rattle.ranked.specs.ByTurns.{cutBy}
 use Rattle.ranked.specs.Crossings.{holding, Crossable, Crossed}
-use Rattle.ranked.proofs.Laying.{on-both, relabelled}
+use Rattle.lineup.proofs.Laying.{on-both, relabelled, gap-left}
 use Rattle.ranked.proofs.Turning.{none-taken, settled-nothing, takes-within}
 use Rattle.ranked.proofs.Crossing.{settled-first, cross-more}
 
@@ -246,7 +246,8 @@ module _ (rule : Rule) (lawful : Lawful rule) (b : Book) (sound : Sound rule b) 
         let rest = length-append (b .buys) (b .sells) in
         let bought = l .counts Buy in
         let sold = l .counts Sell in
-        omega (arith, s .few)
+        let room = gap-left places s b l Sell in
+        omega arith
 
     pub call-accepted : (s st : State) (places : List (Place Order)) (count : ℕ) (lent left : List Fill) → refusedBy (s .capacity) b Call (length lent) ≡ None → st .capacity ≡ s .capacity →
         Crossed price n (dealing b) places st count lent left →

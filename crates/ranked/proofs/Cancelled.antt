@@ -19,7 +19,7 @@ use Rattle.plain.specs.Book.{Book, side, resting}
 use Rattle.orders.specs.Causes.{when}
 use Rattle.plain.specs.Gate.{refusedBy, notHis}
 use Rattle.plain.specs.Sound.{Sound, NotNumbered, Distinct, Apart}
-use Rattle.ranked.specs.Layout.{Stood}
+use Rattle.lineup.specs.Layout.{Stood}
 
 keep-append : (f : Order → Bool) (xs ys : List Order) → keep f (xs ++ ys) ≡ keep f xs ++ keep f ys
 keep-append f [] ys = refl

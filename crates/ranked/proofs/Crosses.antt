@@ -1,26 +1,24 @@
 -- A fill between the best buy and the best sell, by a turn with each. Assumes nothing.
-use mathlib.Core.Path.{_≡_, refl, sym, ap, subst, _∙_}
-use mathlib.Core.Bool.{cond}
+use mathlib.Core.Path.{_≡_, refl, sym, ap, _∙_}
 use mathlib.Core.Logic.{⊎-elim}
 use mathlib.Core.List.{List, [], _∷_}
-use Prim.Native.Nat.{ℕ, _-_, min}
+use Prim.Native.Nat.{ℕ, min}
 use native.Mathlib.Omega.{arith}
 use lib.Dec.{leb}
 use lib.ListN.{length}
-use Rattle.std.proofs.shelf.Tests.{cond-true, cond-false, le-leb, lt-leb, cases-lt}
-use Rattle.std.specs.declared.option.Option.the-variants.{Some, None}
+use Rattle.std.proofs.shelf.Tests.{cond-true, le-leb, cases-lt}
+use Rattle.std.specs.declared.option.Option.the-variants.{Some}
 use Rattle.orders.specs.declared.request.Side.the-variants.{Buy, Sell}
 use Rattle.orders.specs.declared.order.Order.{Order}
 use Rattle.ranking.specs.declared.place.Place.{Place}
-use Rattle.plain.specs.Rule.{with-remaining}
 use Rattle.plain.specs.Book.{Book}
 use Rattle.venue.specs.Questions.{ranked}
 use Rattle.ranked.specs.declared.state.Turn.{Turn}
 use Rattle.ranked.specs.declared.state.Crossing.{Crossing}
-use Rattle.ranked.specs.Standing.{Lies}
+use Rattle.lineup.specs.Lying.{Lies}
 use Rattle.ranked.specs.ByTurns.{cutBy, Turned}
 use Rattle.ranked.specs.Crossings.{holding, Crossable}
-use Rattle.ranked.proofs.Ranks.{best-some}
+use Rattle.lineup.proofs.Ranks.{best-some}
 
 -- more tonnes than remain cut no more than what remains
 cut-least : (n : ℕ) (x : Order) (xs : List Order) → cutBy n x xs ≡ cutBy (min n (x .remaining)) x xs

@@ -24,12 +24,12 @@ use Rattle.plain.specs.Sound.{Sound, AllLive}
 use Rattle.plain.proofs.Entry.{dealt-at-tonnes}
 use Rattle.plain.proofs.StaysSound.{next-is-new, sides-distinct}
 use Rattle.plain.proofs.Thinned.{keep-thins, thinned-live}
-use Rattle.ranked.specs.declared.state.State.{State}
+use Rattle.lineup.specs.declared.state.State.{State}
 use Rattle.ranked.specs.declared.state.Done.{Done}
-use Rattle.ranked.specs.Standing.{Lies}
+use Rattle.lineup.specs.Lying.{Lies}
 use Rattle.ranked.specs.Handling.{Accepted}
 use Rattle.ranked.specs.ByTurns.{byTurns, leftBy, replaced, TurnsTaken}
-use Rattle.ranked.proofs.Rested.{both-counts}
+use Rattle.lineup.proofs.Laying.{gap-left}
 use Rattle.ranked.proofs.Turning.{turns-none, turns-more, dealt-by-turns, settled-nothing, settled-turns, settled-own, turns-within}
 
 -- the book that has given out its next number
@@ -101,8 +101,8 @@ pub turns-fit : (places : List (Place Order)) (st : State) (b : Book) → Lies p
 turns-fit places st b l s o n =
     let few = turns-few s o n (side (other s) b) in
     let counts = l .counts (other s) in
-    let both = both-counts s st in
-    omega (arith, st .few)
+    let room = gap-left places st b l s in
+    omega arith
 
 pub entry-accepted : (rule : Rule) (b : Book) (e : Entry) (fs : List Fill) (s : State) (places : List (Place Order)) (lent left : List Fill) (d : Done) →
     entryFills (b .phase) e b ≡ fs → refusedBy (s .capacity) b (Enter e) (length lent) ≡ None → d .answer ≡ entered rule e b fs .answer → left ≡ fs ++ drop (length fs) lent →

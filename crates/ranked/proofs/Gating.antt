@@ -1,12 +1,11 @@
 -- What a book refuses of an entry, told by its state. Assumes nothing.
 use mathlib.Core.Path.{_≡_, refl, sym, ap, _∙_}
-use mathlib.Core.Bool.{Bool, true, false, cond}
-use mathlib.Core.List.{List, [], _∷_}
+use mathlib.Core.Bool.{Bool, true, false}
+use mathlib.Core.List.{List}
 use Prim.Native.Nat.{ℕ, _+_, _-_, _≤_, _<_}
 use native.Mathlib.Omega.{arith}
 use lib.Dec.{leb, ltb}
 use lib.ListN.{length, drop, length-append}
-use Rattle.std.proofs.shelf.Lists.{drop-at}
 use Rattle.std.proofs.shelf.Tests.{le-ltb, lt-ltb, le-leb, lt-leb}
 use Rattle.std.specs.declared.option.Option.the-variants.{Some}
 use Rattle.orders.specs.declared.request.Side.{Side}
@@ -20,30 +19,16 @@ use Rattle.plain.specs.Orders.{keep, total, within, other}
 use Rattle.plain.specs.Book.{Book, side, resting, reach}
 use Rattle.orders.specs.Causes.{first, when}
 use Rattle.plain.specs.Gate.{early, unreached, refusedBy}
-use Rattle.plain.proofs.Kept.{total-keep}
-use Rattle.ranked.specs.declared.state.State.{State}
-use Rattle.ranked.specs.Layout.{seen, held, worth}
-use Rattle.ranked.specs.Standing.{Lies, count}
-use Rattle.ranked.proofs.Laying.{before, own-after, starts-at}
-
-worth-held : (t : Side) (limit : ℕ) (os : List Order) → worth t limit (held os) ≡ total (keep (within t limit) os)
-worth-held t limit [] = refl
-worth-held t limit (o ∷ os) = ap (λ n. cond (within t limit o) (o .remaining) 0 + n) (worth-held t limit os) ∙ sym (total-keep (within t limit) o os)
+use Rattle.lineup.specs.declared.state.State.{State}
+use Rattle.lineup.proofs.Worth.{worth-from}
+use Rattle.lineup.specs.Layout.{seen, worth}
+use Rattle.lineup.specs.Lying.{Lies, count}
 
 module _ (places : List (Place Order)) (s : State) (b : Book) (l : Lies places s b) where
-  -- what lies from a side's first place on
-  pub own-from : (t : Side) (n : ℕ) → n ≡ count t s → drop (s .capacity - n) (seen t places) ≡ held (side t b)
-  own-from t n tallied =
-      let starts = starts-at places s b l t in
-      ap (drop (s .capacity - n)) (own-after places s b l t) ∙ drop-at (before (l .gap) (side (other t) b)) (held (side t b)) (s .capacity - n) (omega arith)
-
-  pub worth-from : (t u : Side) (limit n : ℕ) → n ≡ count t s → worth u limit (drop (s .capacity - n) (seen t places)) ≡ total (keep (within u limit) (side t b))
-  worth-from t u limit n tallied = ap (worth u limit) (own-from t n tallied) ∙ worth-held u limit (side t b)
-
-  pub reach-is : (e : Entry) (u t : Side) (limit n : ℕ) → u ≡ e .side → t ≡ other u → limit ≡ e .price → n ≡ count t s →
-      worth u limit (drop (s .capacity - n) (seen t places)) ≡ reach e b
-  reach-is e u t limit n own theirs price tallied =
-      worth-from t u limit n tallied ∙
+  pub reach-is : (e : Entry) (u t : Side) (limit start : ℕ) → u ≡ e .side → t ≡ other u → limit ≡ e .price → start ≡ s .capacity - count t s →
+      worth u limit (drop start (seen t places)) ≡ reach e b
+  reach-is e u t limit start own theirs price is =
+      worth-from places s b l t u limit start is ∙
       ap (λ v. total (keep (within v limit) (side t b))) own ∙
       ap (λ v. total (keep (within (e .side) v) (side t b))) price ∙
       ap (λ v. total (keep (within (e .side) (e .price)) (side v b))) (theirs ∙ ap other own)

@@ -16,11 +16,12 @@ use Rattle.plain.specs.Gate.{refusedBy, AdmittedFrom}
 use Rattle.plain.proofs.Tapes.{from-more}
 use Rattle.venue.specs.Meaning.{Served, outcome, laid, joined, atHeight, bookSetup}
 use Rattle.venue.specs.Questions.{isEmpty}
-use Rattle.ranked.specs.declared.state.State.{State}
+use Rattle.lineup.specs.declared.state.State.{State}
 use Rattle.ranked.specs.declared.state.Done.{Done}
-use Rattle.ranked.specs.Standing.{Lies, Stands}
+use Rattle.lineup.specs.Lying.{Lies}
+use Rattle.ranked.specs.Standing.{Stands}
 use Rattle.ranked.specs.Handling.{Accepted}
-use Rattle.ranked.proofs.Laying.{relabelled}
+use Rattle.lineup.proofs.Laying.{relabelled}
 
 admitted-more : (rule : Rule) (capacity n : ℕ) (b : Book) (t : Tape) (q : Request) → AdmittedFrom rule capacity b t → refusedBy capacity (from rule b t) q n ≡ None → AdmittedFrom rule capacity b (t ++ (q ∷ []))
 admitted-more rule capacity n b [] q a e = ((n, e), tt)

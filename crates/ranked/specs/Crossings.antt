@@ -10,9 +10,9 @@ use Rattle.orders.specs.declared.order.Fill.{Fill}
 use Rattle.ranking.specs.declared.place.Place.{Place}
 use Rattle.plain.specs.Dealing.{fill, dealt}
 use Rattle.plain.specs.Book.{Book, dealtWith}
-use Rattle.ranked.specs.declared.state.State.{State}
+use Rattle.lineup.specs.declared.state.State.{State}
 use Rattle.ranked.specs.declared.state.Crossing.{Crossing}
-use Rattle.ranked.specs.Standing.{Lies}
+use Rattle.lineup.specs.Lying.{Lies}
 use Rattle.ranked.specs.ByTurns.{cutBy}
 
 -- a book with other orders

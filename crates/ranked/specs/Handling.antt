@@ -13,9 +13,9 @@ use Rattle.ranking.specs.declared.place.Place.{Place}
 use Rattle.plain.specs.Rule.{Rule}
 use Rattle.plain.specs.Book.{Book, reply}
 use Rattle.plain.specs.Gate.{refusedBy}
-use Rattle.ranked.specs.declared.state.State.{State}
+use Rattle.lineup.specs.declared.state.State.{State}
 use Rattle.ranked.specs.declared.state.Done.{Done}
-use Rattle.ranked.specs.Standing.{Lies}
+use Rattle.lineup.specs.Lying.{Lies}
 
 pub record Accepted (rule : Rule) (b : Book) (q : Request) (s : State) (places : List (Place Order)) (lent left : List Fill) (d : Done) : Type 0 where
   pub admitted : refusedBy (s .capacity) b q (length lent) ≡ None

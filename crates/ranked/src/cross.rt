@@ -7,13 +7,14 @@ ghost use Rattle.plain.specs.Orders.{total};
 ghost use Rattle.plain.specs.Dealing.{dealt};
 ghost use Rattle.plain.specs.Book.{Book};
 ghost use Rattle.plain.specs.Sound.{Sound};
-ghost use Rattle.ranked.specs.Standing.{Lies};
+ghost use Rattle.lineup.specs.Lying.{Lies};
 ghost use Rattle.ranked.specs.Crossings.{CrossTaken, Crossed};
+use crate::deal::narrowed;
 use crate::deal::turn;
-use crate::sides::at_rank;
 use crate::state::Crossing;
-use crate::state::State;
 use crate::state::Turns;
+use lineup::sides::at_rank;
+use lineup::state::State;
 use orders::order::Fill;
 use orders::order::Order;
 use orders::request::Side;
@@ -76,6 +77,6 @@ pub fn crossed<L: Places<Record = Order>>(
     }
     Turns {
         state,
-        fills: count as u32,
+        fills: narrowed(count),
     }
 }

@@ -1,43 +1,25 @@
 ghost use mathlib.Core.Path.{_≡_};
-ghost use mathlib.Core.List.{List, _∷_};
-ghost use Prim.Native.Nat.{_+_, _-_, _≤_, _<_};
+ghost use Prim.Native.Nat.{_+_, _-_, _^_, _≤_, _<_, min};
 ghost use Rattle.std.specs.Options.{Cases as BySome};
 ghost use Rattle.orders.specs.declared.order.Order.{Order};
-ghost use Rattle.plain.specs.Rule.{with-remaining};
 ghost use Rattle.plain.specs.Orders.{other};
 ghost use lib.ListN.{length};
 ghost use Rattle.plain.specs.Book.{Book, side as sideOf, order as orderOf};
-ghost use Rattle.ranked.specs.Standing.{Lies};
+ghost use Rattle.lineup.specs.Lying.{Lies};
 ghost use Rattle.ranked.specs.ByTurns.{TurnTaken, TurnsTaken, fillAt, byTurns};
 use crate::gate::opposite;
-use crate::seen::put;
-use crate::sides::at_rank;
-use crate::sides::take_out;
-use crate::sides::tally;
-use crate::state::State;
 use crate::state::Turn;
 use crate::state::Turns;
+use lineup::sides::at_rank;
+use lineup::sides::reduce;
+use lineup::sides::start;
+use lineup::sides::take_out;
+use lineup::state::State;
 use orders::entry::Entry;
 use orders::order::Fill;
 use orders::order::Order;
 use orders::request::Side;
-use ranking::place::Place;
 use ranking::places::Places;
-
-// Writes what remains of the best order of a side.
-fn reduce<L: Places<Record = Order>>(
-    list: &mut L,
-    state: &State,
-    side: Side,
-    mut order: Order,
-    remaining: u32,
-)
-    ensures { λ _. ⌜ ((b c : Book) (later : List Order) → Lies (L·Places .contents (now (list .entry))) (now (state .entry)) b → sideOf side b ≡ order ∷ later → sideOf side c ≡ with-remaining order remaining ∷ later → sideOf (other side) c ≡ sideOf (other side) b → c .phase ≡ b .phase → c .next ≡ b .next → Lies (L·Places .contents (now (list .exit))) (now (state .entry)) c) ⌝ }
-{
-    let n = tally(state, side);
-    order.remaining = remaining;
-    put(list, side, state.capacity - n, Place::Holding(order));
-}
 
 // Deals up to n tonnes with the best order of a side, if there is one.
 pub fn turn<L: Places<Record = Order>>(
@@ -61,13 +43,24 @@ pub fn turn<L: Places<Record = Order>>(
             tonnes: n,
         });
     }
-    let start = state.capacity - tally(&state, side);
-    let state = take_out(list, state, side, start);
+    let first = start(&state, side);
+    let state = take_out(list, state, side, first);
     Some(Turn {
         state,
         order,
         tonnes: order.remaining,
     })
+}
+
+// A count in 32 bits.
+pub fn narrowed(n: usize) -> u32
+    ensures { λ r. ⌜ r ≡ min n (2 ^ 32 - 1) ⌝ }
+{
+    if n < u32::MAX as usize {
+        n as u32
+    } else {
+        u32::MAX
+    }
 }
 
 // The fill of an entry with a resting order.
@@ -127,6 +120,6 @@ pub fn deal<L: Places<Record = Order>>(
     }
     Turns {
         state,
-        fills: count as u32,
+        fills: narrowed(count),
     }
 }

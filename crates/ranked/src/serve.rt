@@ -12,9 +12,9 @@ ghost use Rattle.ranked.specs.Standing.{Stands};
 ghost use Rattle.ranked.specs.Handling.{Handled};
 use crate::book::Ranked;
 use crate::handle::handle;
-use crate::sides::at_rank;
 use crate::state::Done;
-use crate::state::State;
+use lineup::sides::at_rank;
+use lineup::state::State;
 use orders::answer::Answer;
 use orders::order::Fill;
 use orders::order::Order;
@@ -27,6 +27,9 @@ use ranking::places::Places;
 use ranking::rank::Priority;
 use ranking::rank::Ranking;
 use venue::venue::Venue;
+
+// The height of a book in a pile.
+const BOTTOM: u8 = 0;
 
 // Keeps what a request came to, and answers it.
 fn close(state: &mut State, outcome: Result<Done, Cause>) -> Result<Answer, Refusal>
@@ -41,7 +44,7 @@ fn close(state: &mut State, outcome: Result<Done, Cause>) -> Result<Answer, Refu
         }
         Err(cause) => Err(Refusal {
             cause,
-            height: Some(0),
+            height: Some(BOTTOM),
         }),
     }
 }
@@ -80,7 +83,7 @@ pub impl<L: Places<Record = Order>, R: Priority> Venue for Ranked<L, R> as Ranke
     }
 
     fn height(&self) -> u8 {
-        0
+        BOTTOM
     }
 
     fn order_at(&self, side: Side, rank: usize) -> Option<Order> {

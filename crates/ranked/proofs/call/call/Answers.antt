@@ -7,7 +7,7 @@ use Rattle.std.proofs.shelf.Tests.{le-ltb}
 use Rattle.orders.specs.declared.refusal.Cause.the-variants.{FillListShort, WrongPhase}
 use Rattle.orders.specs.Causes.{first, when}
 use Rattle.plain.specs.Gate.{isDealing}
-use Rattle.ranked.proofs.Laying.{relabelled}
+use Rattle.lineup.proofs.Laying.{relabelled}
 use Rattle.ranked.proofs.Called.{dealing, dealing-sound, call-has, call-room, call-accepted}
 use Rattle.ranked.proofs.call.call.Needs as need
 

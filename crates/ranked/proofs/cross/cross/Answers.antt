@@ -1,6 +1,6 @@
 use mathlib.Core.Path.{_∙_}
 use native.Mathlib.Omega.{arith}
-use Rattle.ranked.proofs.Ranks.{best-none}
+use Rattle.lineup.proofs.Ranks.{best-none}
 use Rattle.ranked.proofs.Crosses.{bought-lies, crosses, no-buys, no-sells}
 use Rattle.ranked.proofs.cross.cross.Needs as need
 

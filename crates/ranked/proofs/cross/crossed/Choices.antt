@@ -5,7 +5,7 @@ use Rattle.plain.specs.Orders.{total}
 use Rattle.plain.specs.Dealing.{dealt}
 use Rattle.plain.specs.Book.{Book}
 use Rattle.plain.specs.Sound.{Sound}
-use Rattle.ranked.specs.Standing.{Lies}
+use Rattle.lineup.specs.Lying.{Lies}
 use Rattle.ranked.proofs.Called.{Calling}
 use Rattle.ranked.proofs.cross.crossed.Given as given
 

@@ -3,7 +3,7 @@ use mathlib.Core.List.{[]}
 use Prim.Native.Nat.{_+_}
 use Rattle.plain.specs.Book.{entryFills}
 use Rattle.orders.specs.declared.order.Phase.the-variants.{Dealing}
-use Rattle.ranked.proofs.Laying.{relabelled}
+use Rattle.lineup.proofs.Laying.{relabelled}
 use Rattle.ranked.proofs.Entering.{numberGiven, none-dealt, tonnes-dealt, turns-fit, turns-come-to, entry-accepted}
 use Rattle.ranked.proofs.entry.enter.Needs as need
 

@@ -3,7 +3,7 @@ use mathlib.Core.Bool.{not}
 use Rattle.orders.specs.declared.refusal.Cause.the-variants.{WrongPhase}
 use Rattle.orders.specs.Causes.{when}
 use Rattle.plain.specs.Gate.{isDealing}
-use Rattle.ranked.proofs.Laying.{relabelled}
+use Rattle.lineup.proofs.Laying.{relabelled}
 use Rattle.ranked.proofs.handle.halt.Needs as need
 
 pub returns : need.returns

@@ -5,7 +5,7 @@ use Rattle.std.specs.declared.option.Option.the-variants.{Some}
 use Rattle.orders.specs.declared.answer.Answer.the-variants.{Withdrawn}
 use Rattle.plain.specs.Orders.{find}
 use Rattle.plain.specs.Book.{resting, withdrawn}
-use Rattle.ranked.specs.Standing.{Lies}
+use Rattle.lineup.specs.Lying.{Lies}
 use Rattle.ranked.proofs.Cancelled.{gone, own-gone, others-stay, may-cancel}
 use Rattle.ranked.proofs.handle.withdraw.Needs as need
 
