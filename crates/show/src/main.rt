@@ -3,24 +3,18 @@ mod words;
 
 use crate::words::Words;
 use crate::words::WordsDisplay;
+use input::read_file;
 use orders::refusal::Cause;
 use orders::request::Request;
 use request_file::reader::Located;
 use request_file::reader::Reader;
 use request_file::reader::ReaderIterator;
 use std::io;
-use std::io::Read;
-
-// The longest file that is read, in bytes.
-const LONGEST: usize = 65536;
 
 fn main(rt: LibcRuntime) -> io::Result<()> {
-    let mut file = Vec::new(rt.alloc());
-    let mut input = rt.stdin().take(LONGEST as u64 + 1);
-    input.read_to_end(&mut file)?;
-    if file.len() > LONGEST {
+    let Some(file) = read_file(&rt)? else {
         return println!(rt, "too long");
-    }
+    };
     show(&rt, file.as_slice())
 }
 

@@ -1,0 +1,3 @@
+mod Admitted
+mod Listed
+mod Onward

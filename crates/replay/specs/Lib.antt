@@ -1,0 +1,4 @@
+pub mod Lists
+pub mod Fills
+pub mod Quotes
+pub mod Agreeing
