@@ -10,9 +10,9 @@ use ranking::place::Place;
 use ranking::places::Lent;
 use ranking::places::LentPlaces;
 use ranking::rules::Time;
+use ranking::rules::TimePriority;
 use std::alloc::Global;
 use std::error::AnyError;
-use ranking::rules::TimePriority;
 
 fn main(rt: LibcRuntime) -> Result<(), AnyError> {
     rt.report(run(&rt))

@@ -2,15 +2,22 @@
 use mathlib.Core.Path.{_≡_}
 use mathlib.Core.List.{List}
 use Prim.Native.Nat.{ℕ, _+_, _≤_, _<_}
+use denote.Ref.{now}
 use Rattle.std.specs.declared.result.Result.{Result}
 use Rattle.std.specs.declared.result.Result.the-variants.{Ok, Err}
 use Rattle.orders.specs.declared.request.Side.{Side}
 use Rattle.orders.specs.declared.order.Fill.{Fill}
 use Rattle.orders.specs.declared.refusal.Cause.{Cause}
 use Rattle.orders.specs.declared.refusal.Cause.the-variants.{LedgerFull}
+use Rattle.std.specs.Of.Vec.{vec-items}
+use Rattle.claims.specs.declared.check.Checked.{Checked}
 use Rattle.ranking.specs.Sequence.{sumOf}
 use Rattle.ledger.specs.declared.row.Row.{Row}
 use Rattle.ledger.specs.Rows.{Unit-of, total, rowOf, adds, limit}
+
+-- the fills of a checked claim
+abbrev pub fillsOf : Checked → List Fill
+fillsOf c = vec-items (now (c .claim) .fills)
 
 -- a member's total with what the fills add to it
 abbrev pub due : List Row → List Fill → Side → Unit-of → ℕ → ℕ

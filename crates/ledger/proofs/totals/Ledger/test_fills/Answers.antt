@@ -1,6 +1,6 @@
 use mathlib.Core.Path.{refl}
 use Rattle.ledger.proofs.Adding.{fits, passes}
-use Rattle.ledger.proofs.totals.Ledger.would_book.Needs as need
+use Rattle.ledger.proofs.totals.Ledger.test_fills.Needs as need
 
 pub returns-then-are-within : need.returns-then-are-within
 returns-then-are-within c = fits _ _ _ (c .add-fills .ensures .added) (c .add-fills .ensures .long) (c .if-are-within .ensures tt)

@@ -1,7 +1,7 @@
 use mathlib.Core.Path.{refl}
 use Rattle.ledger.proofs.Adding.{fits, books, passes}
 use Rattle.ledger.proofs.Balance.{booked-balance}
-use Rattle.ledger.proofs.totals.Ledger.book.Needs as need
+use Rattle.ledger.proofs.totals.Ledger.book_fills.Needs as need
 
 pub returns-then-not-are-within : need.returns-then-not-are-within
 returns-then-not-are-within c = record {
