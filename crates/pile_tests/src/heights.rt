@@ -1,0 +1,81 @@
+use crate::rows::*;
+use foreign::counting::Counting;
+use foreign::counting::CountingVenue;
+use foreign::picky::Picky;
+use foreign::picky::PickyPart;
+use layers::caps::Caps;
+use layers::caps::CapsPart;
+use layers::collar::Collar;
+use layers::collar::CollarPart;
+use layers::layer::LayerVenue;
+use layers::layer::stack;
+use orders::order::Order;
+use orders::row::Row;
+use ranking::place::Place;
+use ranking::places::Lent;
+use ranking::places::LentPlaces;
+use ranking::places::Places;
+use ranking::rules::Time;
+use ranking::rules::TimePriority;
+use shelf::shelf::Shelf;
+use shelf::shelf::ShelfVenue;
+use std::test::*;
+use venue::venue::Venue;
+
+// Somebody else's layers under ours and over ours.
+fn mixed<V: Venue + Drop>(book: V) -> Result<(), Fail> {
+    let Ok(counted) = Counting::over(book) else {
+        return Err(Fail::new("no count"));
+    };
+    let Ok(capped) = stack(Caps::usual(), counted) else {
+        return Err(Fail::new("no cap layer"));
+    };
+    let Ok(mut pile) = stack(Picky, capped) else {
+        return Err(Fail::new("no picky layer"));
+    };
+    check_eq(refusal(&mut pile, &sell(100, 3))?, (17, 3)).note("its own number, at its height")?;
+    check_eq(refusal(&mut pile, &buy(100, 1001))?, (8, 2)).note("our cap below it")?;
+    check_eq(refusal(&mut pile, &sell(100, 4))?.0, 0)?;
+    check_eq(refusal(&mut pile, &Row::Halt)?, (11, 0)).note("the book's own refusal")
+}
+
+fn mixed_over<L: Places<Record = Order> + Drop>(list: L) -> Result<(), Fail> {
+    match Shelf::over(list, Time) {
+        Ok(book) => mixed(book),
+        Err(_) => Err(Fail::new("no book")),
+    }
+}
+
+#[test]
+fn other_peoples_layers() -> Result<(), Fail> {
+    mixed_over(Lent::over(&mut [Place::Vacant; 8]))
+}
+
+// The number of the refusal that a collar over a venue gets, or 0.
+fn set_up<V: Venue + Drop>(low: u32, high: u32, below: V) -> u8 {
+    match stack(Collar::new(low, high), below) {
+        Ok(_) => 0,
+        Err(refused) => refused.cause.number(),
+    }
+}
+
+fn bad_layers<L: Places<Record = Order> + Drop>(list: L, used: bool) -> Result<u8, Fail> {
+    let Ok(mut book) = Shelf::over(list, Time) else {
+        return Err(Fail::new("no book"));
+    };
+    if used {
+        send_all(&mut book, &[Row::Call, Row::Halt])?;
+        return Ok(set_up(1, 2, book));
+    }
+    Ok(set_up(2, 1, book))
+}
+
+#[test]
+fn refused_layers() -> Result<(), Fail> {
+    check_eq(bad_layers(Lent::over(&mut [Place::Vacant; 8]), false)?, 1).note(
+        "a low above its high",
+    )?;
+    check_eq(bad_layers(Lent::over(&mut [Place::Vacant; 8]), true)?, 1).note(
+        "a book that is empty, but not fresh",
+    )
+}
