@@ -18,14 +18,17 @@ pub next-lines : (count : ℕ) (r : Record) (q : Request) (ss : List Step) (used
 next-lines count r q ss used s e h is =
     rw e (ap (firstLines count (Ok q)) (drop-more ss used s h) ∙ ap (stepLines count) (sym is))
 
+-- and that step is used
 pub next-used : (r : Record) (q : Request) (ss : List Step) (used : ℕ) (s : Step) → r ≡ Ok q → used < length ss →
     drop (used + 1) ss ≡ stepsAfter r (drop used ss)
 next-used r q ss used s e h = rw e (sym (ap (stepsAfter (Ok q)) (drop-more ss used s h)))
 
+-- it has none, if no step is left
 pub none-lines : (count : ℕ) (r : Record) (q : Request) (ss : List Step) (used : ℕ) → r ≡ Ok q → length ss ≤ used →
     firstLines count r (drop used ss) ≡ []
 none-lines count r q ss used e h = rw e (ap (firstLines count (Ok q)) (drop-all used ss h))
 
+-- and none is used
 pub none-used : (r : Record) (q : Request) (ss : List Step) (used : ℕ) → r ≡ Ok q → length ss ≤ used →
     drop used ss ≡ stepsAfter r (drop used ss)
 none-used r q ss used e h = let none = drop-all used ss h in rw e (none ∙ sym (ap (stepsAfter (Ok q)) none))

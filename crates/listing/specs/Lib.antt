@@ -1,2 +1,3 @@
+pub mod Day
 pub mod Lines
 pub mod Records

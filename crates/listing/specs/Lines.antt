@@ -45,6 +45,7 @@ outcomeLines count None fs = []
 outcomeLines count (Some (Ok a)) fs = admittedLines count a fs
 outcomeLines count (Some (Err f)) fs = Refused count f ∷ []
 
+-- the same of a request with its fill list
 abbrev pub sendingLines : ℕ → Sending → List Line
 sendingLines count s = outcomeLines count (s .outcome) (vec-items (s .fills))
 
@@ -53,18 +54,19 @@ abbrev pub stepLines : ℕ → Step → List Line
 stepLines count (Send s) = sendingLines count s
 stepLines count (Ask a) = []
 
--- the lines of a record with the steps that are left, and the steps that it leaves: a request has the next step
+-- the lines of a record with the steps that are left: a request has the next step
 abbrev pub firstLines : ℕ → Record → List Step → List Line
 firstLines count (Err c) ss = skipped count c ∷ []
 firstLines count (Ok q) [] = []
 firstLines count (Ok q) (s ∷ ss) = stepLines count s
 
+-- the steps that it leaves
 abbrev pub stepsAfter : Record → List Step → List Step
 stepsAfter (Err c) ss = ss
 stepsAfter (Ok q) [] = []
 stepsAfter (Ok q) (s ∷ ss) = ss
 
--- the lines of records, counted on
+-- the lines of records, counted on from a number
 abbrev pub recordLines : ℕ → List Record → List Step → List Line
 recordLines count [] ss = []
 recordLines count (r ∷ rs) ss = firstLines count r ss ++ recordLines (count + 1) rs (stepsAfter r ss)

@@ -100,6 +100,7 @@ fn count_admitted(steps: &[Step]) -> usize
     count
 }
 
+// Whether a step is a request that was admitted.
 fn is_admitted(step: &Step) -> bool
     ensures { λ r. ⌜ r ≡ eqb (length (deal (now (step .entry)))) 1 ⌝ }
 {

@@ -2,7 +2,7 @@ use mathlib.Core.Path.{ap}
 use native.Mathlib.Omega.{arith}
 use Prim.Native.Nat.{_<_}
 use lib.ListN.{length}
-use Rattle.std.proofs.shelf.Lists.{drop-more, drop-all}
+use Rattle.std.proofs.shelf.Lists.{drop-all}
 use Rattle.std.proofs.shelf.Ways.{tells}
 use Rattle.venue.specs.Steps.{admitted}
 use Rattle.listing.proofs.Admitted.{admitted-rest}

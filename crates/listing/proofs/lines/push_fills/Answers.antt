@@ -1,10 +1,8 @@
-use mathlib.Core.Path.{_≡_, ap}
-use mathlib.Core.List.{map, append-assoc, [], _∷_}
+use mathlib.Core.List.{append-assoc}
 use native.Mathlib.Omega.{arith}
 use Prim.Native.Nat.{_<_}
-use lib.ListN.{length, take}
-use Rattle.std.specs.Of.Vec.{vec-items}
-use Rattle.std.proofs.shelf.Lists.{map-more, take-all}
+use lib.ListN.{length}
+use Rattle.std.proofs.shelf.Lists.{map-more}
 use Rattle.listing.specs.declared.line.Line.the-variants.{Filled}
 use Rattle.listing.proofs.Listed.{take-least}
 use Rattle.listing.proofs.lines.push_fills.Needs as need
@@ -17,7 +15,6 @@ loop-i-again c =
     let pushed = c .in-Continue-push .ensures tt .items in
     let more = map-more Filled fills i (record { buy = 0; sell = 0; buyer = 0; seller = 0; price = 0; quantity = 0 }) inside in
     let before = c .loop-i .inv in
-    let regroup = append-assoc (vec-items (c .args .lines .now)) (map Filled (take i fills)) in
     simp (pushed, before, more, append-assoc)
 
 pub returns : need.returns
