@@ -31,13 +31,16 @@ pub record Book : Type 0 where
   pub buys : List Order
   pub sells : List Order
 
+-- a book that was asked nothing yet
 abbrev pub fresh : Book
 fresh = record { phase = Gathering; next = 1; buys = []; sells = [] }
 
+-- the orders of a side
 abbrev pub side : Side → Book → List Order
 side Buy b = b .buys
 side Sell b = b .sells
 
+-- all orders that rest, the buys first
 abbrev pub resting : Book → List Order
 resting b = b .buys ++ b .sells
 
@@ -45,6 +48,7 @@ resting b = b .buys ++ b .sells
 abbrev pub inReach : Entry → Book → List Order
 inReach e b = keep (within (e .side) (e .price)) (side (other (e .side)) b)
 
+-- the reach of an entry: what remains of them
 abbrev pub reach : Entry → Book → ℕ
 reach e b = total (inReach e b)
 
@@ -56,21 +60,26 @@ pub record Reply : Type 0 where
 
 -- an entry
 
+-- an entry as an order with a number, all of it remaining
 abbrev pub order : Entry → ℕ → Order
 order e n = record { number = n; member = e .member; side = e .side; price = e .price; quantity = e .quantity; remaining = e .quantity }
 
+-- a fill of an entry has the price of the resting order, the sell's for a buy and the buy's for a sell
 abbrev pub restingPrice : Side → Pricing
 restingPrice Buy b s = s .price
 restingPrice Sell b s = b .price
 
+-- who buys and who sells: the entry's order alone on its own side, those in its reach on the other
 abbrev pub entryBuyers : Side → Order → List Order → List Order
 entryBuyers Buy o os = o ∷ []
 entryBuyers Sell o os = os
 
+-- the other half
 abbrev pub entrySellers : Side → Order → List Order → List Order
 entrySellers Buy o os = os
 entrySellers Sell o os = o ∷ []
 
+-- the fills of an entry: none while gathering; while dealing the smaller of its quantity and its reach is dealt
 abbrev pub entryFills : Phase → Entry → Book → List Fill
 entryFills Gathering e b = []
 entryFills Dealing e b =
@@ -78,10 +87,12 @@ entryFills Dealing e b =
     (entryBuyers (e .side) (order e (b .next)) (inReach e b))
     (entrySellers (e .side) (order e (b .next)) (inReach e b))
 
+-- an order put in its place on its side
 abbrev pub put : Rule → Side → Order → Book → Book
 put rule Buy o b = record { phase = b .phase; next = b .next; buys = placed rule o (b .buys); sells = b .sells }
 put rule Sell o b = record { phase = b .phase; next = b .next; buys = b .buys; sells = placed rule o (b .sells) }
 
+-- whether what an entry does not deal at once rests
 abbrev pub rests : Life → Bool
 rests Rest = true
 rests Kill = false
@@ -90,6 +101,7 @@ rests Kill = false
 abbrev pub dealtWith : Phase → ℕ → List Fill → Book → Book
 dealtWith phase next fs b = record { phase = phase; next = next; buys = settled Buy fs (b .buys); sells = settled Sell fs (b .sells) }
 
+-- the reply to an entry with its fills: what they leave of it rests, if its life says so and something is left, and else is withdrawn
 abbrev pub entered : Rule → Entry → Book → List Fill → Reply
 entered rule e b fs =
     let left = e .quantity - tonnes fs in
@@ -103,6 +115,7 @@ entered rule e b fs =
 
 -- a cancel
 
+-- the reply to a cancel of what was found under the number
 abbrev pub withdrawn : ℕ → Book → Option Order → Reply
 withdrawn n b None = record { answer = Withdrawn (record { number = n; side = Buy; tonnes = 0 }); fills = []; book = b }
 withdrawn n b (Some o) = record {
@@ -113,20 +126,25 @@ withdrawn n b (Some o) = record {
 
 -- a call
 
+-- the price of a call
 abbrev pub price : Book → ℕ
 price b = callPrice (b .buys) (b .sells)
 
+-- who buys at it: the buys at the price or more
 abbrev pub callBuyers : Book → List Order
 callBuyers b = keep (within Sell (price b)) (b .buys)
 
+-- who sells: the sells at the price or less
 abbrev pub callSellers : Book → List Order
 callSellers b = keep (within Buy (price b)) (b .sells)
 
+-- the fills of a call, all at its price
 abbrev pub callFills : Book → List Fill
 callFills b = dealt (λ _ _. price b) (callVolume (b .buys) (b .sells)) (callBuyers b) (callSellers b)
 
 -- the reply to a request that is admitted
 
+-- what each request is answered, its fills, and the book after it
 abbrev pub reply : Rule → Book → Request → Reply
 reply rule b (Enter e) = entered rule e b (entryFills (b .phase) e b)
 reply rule b (Withdraw c) = withdrawn (c .number) b (find (c .number) (resting b))
@@ -137,9 +155,11 @@ reply rule b Call = record {
 }
 reply rule b Halt = record { answer = Halted; fills = []; book = record { phase = Gathering; next = b .next; buys = b .buys; sells = b .sells } }
 
+-- requests that were admitted, the oldest first
 abbrev pub Tape : Type 0
 Tape = List Request
 
+-- the book after a tape that was served from a book on
 abbrev pub from : Rule → Book → Tape → Book
 from rule b [] = b
 from rule b (q ∷ qs) = from rule (reply rule b q .book) qs

@@ -24,6 +24,7 @@ pub record DealsTheOneList (rule : Rule) (b : Book) : Type 0 where
   pub of-call : OneList (CallMatches rule b (price b) (callVolume (b .buys) (b .sells))) (callFills b)
   pub of-entry : (e : Entry) → e .minimum ≤ reach e b → OneList (EntryMatches rule b e) (entryFills Dealing e b)
 
+-- so it is of every sound book, under every lawful rule
 abbrev pub FillsAreTheOneList : Type 0
 FillsAreTheOneList = (rule : Rule) → Lawful rule → (b : Book) → Sound rule b → DealsTheOneList rule b
 
@@ -41,6 +42,7 @@ pub record FewFills (b : Book) : Type 0 where
   pub of-call-resting : length (callFills b) ≤ length (resting b)
   pub of-entry : (e : Entry) → length (entryFills (b .phase) e b) ≤ length (inReach e b)
 
+-- so it is of every book
 abbrev pub FillsAreFew : Type 0
 FillsAreFew = (b : Book) → FewFills b
 
@@ -52,6 +54,7 @@ pub record SameReach (e : Entry) (b c : Book) : Type 0 where
   pub refused : (capacity n : ℕ) → b .next ≡ c .next → leb capacity (length (resting b)) ≡ leb capacity (length (resting c)) →
       refusedBy capacity b (Enter e) n ≡ refusedBy capacity c (Enter e) n
 
+-- so it is of every two books that differ only beyond the limit
 abbrev pub ReachEndsAtTheLimit : Type 0
 ReachEndsAtTheLimit =
     (e : Entry) (b c : Book) → b .phase ≡ c .phase →
