@@ -6,11 +6,11 @@ ghost use Rattle.matching.specs.Weights.{capped, placeWeight, heldWeight};
 ghost use Rattle.matching.specs.Scans.{AllVacant, VacantIn, NumberedIn, opposite, tonnesIf, sameSide, aheadOf, RankedIn};
 use orders::order::Order;
 use orders::request::Side;
+use ranking::finding::Test;
+use ranking::finding::first_where;
 use ranking::place::Place;
 use ranking::places::Places;
 use ranking::rank::Priority;
-use ranking::search::Test;
-use ranking::search::first_where;
 
 // Makes every place vacant.
 pub fn clear<L: Places<Record = Order>>(list: &mut L)

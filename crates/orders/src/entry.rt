@@ -6,7 +6,7 @@ pub mod making;
 use crate::request::Life;
 use crate::request::Side;
 
-// A new order. Its ranges hold of every value of the type, so nothing below tests them again.
+// A new order. Its ranges hold of every value of the type, so nothing below checks them again.
 #[derive(Clone, Copy)]
 pub struct Entry {
     member: u8,
