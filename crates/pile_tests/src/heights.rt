@@ -3,6 +3,8 @@ use foreign::counting::Counting;
 use foreign::counting::CountingVenue;
 use foreign::picky::Picky;
 use foreign::picky::PickyPart;
+use foreign::relay::Relay;
+use foreign::relay::RelayVenue;
 use layers::caps::Caps;
 use layers::caps::CapsPart;
 use layers::collar::Collar;
@@ -78,4 +80,63 @@ fn refused_layers() -> Result<(), Fail> {
     check_eq(bad_layers(Lent::over(&mut [Place::Vacant; 8]), true)?, 1).note(
         "a book that is empty, but not fresh",
     )
+}
+
+// Five relays over a venue.
+type Five<V> = Relay<Relay<Relay<Relay<Relay<V>>>>>;
+
+fn relay<V: Venue + Drop>(below: V) -> Result<Relay<V>, Fail> {
+    match Relay::over(below) {
+        Ok(relay) => Ok(relay),
+        Err(_) => Err(Fail::new("no relay")),
+    }
+}
+
+fn five<V: Venue + Drop>(below: V) -> Result<Five<V>, Fail> {
+    relay(relay(relay(relay(relay(below)?)?)?)?)
+}
+
+// What is done with a venue once it is there.
+trait Then {
+    fn then<V: Venue + Drop>(self, venue: V) -> Result<(), Fail>;
+}
+
+// Five more layers first.
+#[derive(Drop)]
+struct Raised<K>(K);
+
+impl<K: Then + Drop> Then for Raised<K> as RaisedThen {
+    fn then<V: Venue + Drop>(self, venue: V) -> Result<(), Fail> {
+        let Raised(next) = self;
+        match five(venue) {
+            Ok(pile) => next.then(pile),
+            Err(fail) => Err(fail),
+        }
+    }
+}
+
+// The highest pile answers, and gets no layer more.
+#[derive(Drop)]
+struct Highest;
+
+impl Then for Highest as HighestThen {
+    fn then<V: Venue + Drop>(self, venue: V) -> Result<(), Fail> {
+        let Highest = self;
+        let mut pile = venue;
+        check_eq(pile.height(), 15)?;
+        check_eq(refusal(&mut pile, &Row::Halt)?, (11, 0)).note("the book's own refusal")?;
+        check_eq(set_up(1, 2, pile), 1).note("a sixteenth layer")
+    }
+}
+
+fn high<L: Places<Record = Order> + Drop>(list: L) -> Result<(), Fail> {
+    match Shelf::over(list, Time) {
+        Ok(book) => Raised(Raised(Raised(Highest))).then(book),
+        Err(_) => Err(Fail::new("no book")),
+    }
+}
+
+#[test]
+fn fifteen_and_no_more() -> Result<(), Fail> {
+    high(Lent::over(&mut [Place::Vacant; 8]))
 }
