@@ -42,7 +42,7 @@ fn before<L: Places<Record = Order>, R: Priority>(
 }
 
 // Puts an order among those of its side that lie after the free place.
-pub fn insert<L: Places<Record = Order>, R: Priority>(
+pub(crate) fn insert<L: Places<Record = Order>, R: Priority>(
     list: &mut L,
     rule: &R,
     side: Side,

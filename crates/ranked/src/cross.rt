@@ -47,7 +47,7 @@ fn cross<L: Places<Record = Order>>(
 }
 
 // Deals n tonnes between the best orders of the two sides, fill by fill, at a price.
-pub fn crossed<L: Places<Record = Order>>(
+pub(crate) fn crossed<L: Places<Record = Order>>(
     list: &mut L,
     mut state: State,
     price: u32,

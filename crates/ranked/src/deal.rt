@@ -88,7 +88,7 @@ fn fill_of(entry: &Entry, number: u32, resting: &Order, tonnes: u32) -> Fill
 }
 
 // Deals n tonnes of an entry with the best orders of the other side, in turn.
-pub fn deal<L: Places<Record = Order>>(
+pub(crate) fn deal<L: Places<Record = Order>>(
     list: &mut L,
     mut state: State,
     taker: &Entry,
