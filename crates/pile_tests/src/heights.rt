@@ -22,6 +22,11 @@ use ranking::rules::TimePriority;
 use shelf::shelf::Shelf;
 use shelf::shelf::ShelfVenue;
 use std::test::*;
+use venue::question::Question;
+use venue::question::Told;
+use venue::run::run;
+use venue::step::Asking;
+use venue::step::Step;
 use venue::venue::Venue;
 
 // Somebody else's layers under ours and over ours.
@@ -38,7 +43,26 @@ fn mixed<V: Venue + Drop>(book: V) -> Result<(), Fail> {
     check_eq(refusal(&mut pile, &sell(100, 3))?, (17, 3)).note("its own number, at its height")?;
     check_eq(refusal(&mut pile, &buy(100, 1001))?, (8, 2)).note("our cap below it")?;
     check_eq(refusal(&mut pile, &sell(100, 4))?.0, 0)?;
-    check_eq(refusal(&mut pile, &Row::Halt)?, (11, 0)).note("the book's own refusal")
+    check_eq(refusal(&mut pile, &Row::Halt)?, (11, 0)).note("the book's own refusal")?;
+    check_eq(told_next(&mut pile), 2).note("a run over the whole pile")
+}
+
+// The next number, asked in a run; 0 where none was told.
+fn told_next<V: Venue>(venue: &mut V) -> u32 {
+    let mut steps = [Step::Ask(Asking {
+        question: Question::NextNumber,
+        told: None,
+    })];
+    run(venue, &mut steps);
+    match &steps[0] {
+        Step::Ask(
+            Asking {
+                question: _,
+                told: Some(Told::NextNumber(Some(number))),
+            },
+        ) => *number,
+        _ => 0,
+    }
 }
 
 fn mixed_over<L: Places<Record = Order> + Drop>(list: L) -> Result<(), Fail> {
