@@ -1,4 +1,6 @@
 // Measures how fast a request file is read, or served by a book or a pile: bench WORK PLACES MILLISECONDS <FILE
+#![tactic(auto)]
+
 mod books;
 mod rounds;
 mod words;

@@ -1,4 +1,6 @@
 // Deals a request file on four piles, two kinds of book under two rules, and prints the listing of each.
+#![tactic(auto)]
+
 use anyhow::anyhow;
 use input::read_file;
 use listing::day::{Book, day_lines};

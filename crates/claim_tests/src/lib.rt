@@ -1,4 +1,6 @@
 // Claims tried against books: which fail, how full a ledger gets, and what goes wrong between two books that differ.
+#![tactic(auto)]
+
 #[cfg(test)]
 mod claims;
 #[cfg(test)]

@@ -1,4 +1,6 @@
 // Deals a request file on the day's pile over a ranked book, and prints what became of each record.
+#![tactic(auto)]
+
 use anyhow::anyhow;
 use input::read_file;
 use listing::day::{Book, day_lines};

@@ -1,4 +1,6 @@
 // Reads a program's standard input, within a bound.
+#![tactic(auto)]
+
 ghost use Rattle.std.specs.Prelude.{◌≤◌, IfSome, IfOk, vec_len};
 
 use std::io;

@@ -1,4 +1,6 @@
 // Layers over any venue.
+#![tactic(auto)]
+
 pub mod caps;
 pub mod collar;
 pub mod layer;

@@ -25,7 +25,7 @@ cause_number LedgerFull = 17
 
 -- the words for it, as bytes
 abbrev pub cause_name : Cause → List ℕ
-cause_name BadSetup = codes "bad set_up"
+cause_name BadSetup = codes "bad set-up"
 cause_name BadVersion = codes "bad version"
 cause_name CutShort = codes "cut short"
 cause_name UnknownKind = codes "unknown kind"

@@ -1,4 +1,6 @@
 // The words of the market: requests and the rows that they are made from, orders, fills, answers and refusals.
+#![tactic(auto)]
+
 pub mod answer;
 pub mod cancel;
 pub mod entry;

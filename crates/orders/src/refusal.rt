@@ -1,11 +1,8 @@
-ghost use Rattle.std.specs.Prelude.{◌≡◌, Decides};
+ghost use Rattle.std.specs.Prelude.{◌≡◌};
 ghost use Rattle.orders.specs.Causes.{cause_number, cause_name};
-ghost use Rattle.std.specs.Cmp.Rules.{comparing};
-ghost use Rattle.std.proofs.Common.{rules};
-ghost use Rattle.std.specs.Cmp as Keys;
 
 // Why a request, a record, a set-up, a claim or a booking is refused. The numbers are part of the formats.
-#[derive(Clone, Copy)]
+#[derive(Clone, Copy, PartialEq, Eq)]
 pub enum Cause {
     BadSetup = 1,
     BadVersion = 2,
@@ -57,20 +54,6 @@ impl Cause {
             Cause::LedgerFull => "ledger full",
         }
     }
-}
-
-impl PartialEq for Cause {
-    ghost equals = { λ a b r. Decides r (a ≡ b) };
-
-    ghost laws = { Keys.partial_equiv_from_equiv (Prim.search (comparing, rules)) };
-
-    fn eq(&self, other: &Cause) -> bool {
-        self.number() == other.number()
-    }
-}
-
-impl Eq for Cause {
-    ghost laws = { Prim.search (comparing, rules) };
 }
 
 // A cause and, where a pile of layers gave it, the height of the layer or book that refused.

@@ -1,4 +1,6 @@
 // Deals tried through piles of layers, ours and other people's, over both books.
+#![tactic(auto)]
+
 #[cfg(test)]
 mod deals;
 #[cfg(test)]

@@ -16,7 +16,7 @@ use Rattle.plain.specs.Promises.{CallLeavesNothingCrossed}
 use Rattle.plain.proofs.Members.{live_one, ahead_of_one}
 use Rattle.plain.proofs.Kept.{numbered, wider_keeps_more}
 use Rattle.plain.proofs.Portions.{portions}
-use Rattle.plain.proofs.Given.{given-of}
+use Rattle.plain.proofs.Given.{given_of}
 use Rattle.plain.proofs.Call.{call_fits}
 use Rattle.plain.proofs.Price.{best_price_is_best}
 use Rattle.plain.proofs.Left.{left_when_settled}

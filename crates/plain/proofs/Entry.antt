@@ -14,7 +14,7 @@ use Rattle.plain.specs.Sound.{Distinct}
 use Rattle.plain.proofs.Kept.{numbered}
 use Rattle.plain.proofs.Sides.{pick}
 use Rattle.plain.proofs.Portions.{portions, taken_first}
-use Rattle.plain.proofs.Given.{counted, Looks, given-of, dealt-tonnes}
+use Rattle.plain.proofs.Given.{counted, Looks, given_of, dealt_tonnes}
 use Rattle.plain.proofs.Settling.{Blind, dealt_settles}
 
 -- k tonnes of an order dealt with orders of the other side

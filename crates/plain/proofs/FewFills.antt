@@ -14,7 +14,7 @@ use Rattle.plain.specs.Book.{Book, in_reach, order, resting_price, entry_fills, 
 use Rattle.plain.specs.Promises.{FillsAreFew}
 use Rattle.plain.proofs.Kept.{keep_few}
 use Rattle.plain.proofs.Portions.{Portion, takes_few}
-use Rattle.plain.proofs.Given.{fills-none}
+use Rattle.plain.proofs.Given.{fills_none}
 use Rattle.plain.proofs.Entry.{dealt_at, entry_tonnes, entry_dealt}
 
 module _ (price : Pricing) where

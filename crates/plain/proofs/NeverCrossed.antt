@@ -52,7 +52,7 @@ module _ (e : Entry) (b : Book) where
 
   given_whole : tonnes fs < e.quantity → (x : Order) → Memᴰ x (side (other e.side) b) → within e.side e.price x ≡ true →
       x.remaining ≤ given (other e.side) x.number fs
-  given_whole short x m in_reach =
+  given_whole short x m lies =
       let k = entry_tonnes Dealing e b in
       let o = order e b.next in
       let own = entry_within_order Dealing e b in
@@ -60,7 +60,7 @@ module _ (e : Entry) (b : Book) where
       let all = dealt_at_tonnes e.side o k (in_reach e b) own theirs in
       let got = their_given e.side o k (in_reach e b) own theirs x.number in
       let whole = takes_whole (numbered x.number) k (in_reach e b) (omega arith) in
-      let reached = kept_one (within e.side e.price) (side (other e.side) b) m in_reach in
+      let reached = kept_one (within e.side e.price) (side (other e.side) b) m lies in
       let itself = kept_one (numbered x.number) (in_reach e b) reached (numbered_itself x) in
       omega (arith, one_in_total (keep (numbered x.number) (in_reach e b)) itself)
 

@@ -9,7 +9,7 @@ use Rattle.plain.specs.Matching.{MatchLaws}
 use Rattle.plain.specs.Matched.{OneList}
 use Rattle.plain.specs.Sound.{AllLive, Distinct}
 use Rattle.plain.proofs.Portions.{takes_all}
-use Rattle.plain.proofs.Given.{given-of, dealt-tonnes}
+use Rattle.plain.proofs.Given.{given_of, dealt_tonnes}
 use Rattle.plain.proofs.OneSide.{Fair}
 use Rattle.plain.proofs.Unique.{one_list}
 use Rattle.plain.proofs.Cut.{takes_some, takes_placed}

@@ -1,4 +1,6 @@
 // The plain book's laws, each as the contract of a function.
+#![tactic(auto)]
+
 ghost use Rattle.plain.specs.Promises.{FillsAreTheOneList, CallPriceIsBest, CallLeavesNothingCrossed, FillsAreFew, ReachEndsAtTheLimit, AlwaysSound, NeverCrossedWhileDealing, AlwaysWithinCapacity, EveryOrderAddsUp, HeldIsBoughtAndResting};
 
 pub fn fills_are_the_one_list()

@@ -1,4 +1,6 @@
 // A book that keeps each side in the sequence of its rule, over a list of places.
+#![tactic(auto)]
+
 pub mod book;
 mod call;
 mod cross;

@@ -1,4 +1,6 @@
 // Settles a request file between the day's piles over two books, and prints how the members stand.
+#![tactic(auto)]
+
 use anyhow::anyhow;
 use input::read_file;
 use settlement::day::settlement_lines;

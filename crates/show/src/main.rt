@@ -1,4 +1,6 @@
 // Prints what a request file holds, a line for each record.
+#![tactic(auto)]
+
 mod words;
 
 use crate::words::Words;

@@ -13,3 +13,6 @@ returns-in-OutOfRange c = ap cause_name (sym c.in-OutOfRange.is)
 
 pub returns-in-BelowMinimum : goal.returns-in-BelowMinimum
 returns-in-BelowMinimum c = ap cause_name (sym c.in-BelowMinimum.is)
+
+pub returns-in-BadSetup : goal.returns-in-BadSetup
+returns-in-BadSetup c = ap cause_name (sym c.in-BadSetup.is)
