@@ -58,7 +58,7 @@ fn other_side(side: Side) -> Side
 }
 
 fn entry_holds<V: Venue>(venue: &V, entry: &Entry, number: u32, fills: &[Fill]) -> bool
-    ensures { (t : Tape) → stands venue.now t → (book_at (setup venue.now) t).next ≡ number → Decides result (EntryMatches (setup venue.now).rule (book_at (setup venue.now) t) entry.now fills.now) }
+    ensures { (t : Tape) → V.stands venue.now t → (book_at (V.setup venue.now) t).next ≡ number → Decides result (EntryMatches (V.setup venue.now).rule (book_at (V.setup venue.now) t) entry.now fills.now) }
 {
     venue.keeps();
     let mut resting = [NO_ORDER; MOST];
@@ -67,7 +67,7 @@ fn entry_holds<V: Venue>(venue: &V, entry: &Entry, number: u32, fills: &[Fill]) 
 }
 
 fn call_holds<V: Venue>(venue: &V, price: u32, volume: u32, fills: &[Fill]) -> bool
-    ensures { (t : Tape) → stands venue.now t → Decides result (CallHolds (setup venue.now).rule (book_at (setup venue.now) t) price volume fills.now) }
+    ensures { (t : Tape) → V.stands venue.now t → Decides result (CallHolds (V.setup venue.now).rule (book_at (V.setup venue.now) t) price volume fills.now) }
 {
     venue.keeps();
     let mut buys = [NO_ORDER; MOST];
@@ -84,7 +84,7 @@ fn call_holds<V: Venue>(venue: &V, price: u32, volume: u32, fills: &[Fill]) -> b
 }
 
 fn check_entry<V: Venue>(venue: &V, entry: &Entry, fills: &[Fill]) -> Result<(), Cause>
-    ensures { (t : Tape) → stands venue.now t → JudgedAt (setup venue.now) t (Subject.Entry entry.now) fills.now result }
+    ensures { (t : Tape) → V.stands venue.now t → JudgedAt (V.setup venue.now) t (Subject.Entry entry.now) fills.now result }
 {
     match venue.phase() {
         Phase::Gathering => return Err(Cause::WrongPhase),
@@ -101,7 +101,7 @@ fn check_entry<V: Venue>(venue: &V, entry: &Entry, fills: &[Fill]) -> Result<(),
 }
 
 fn check_call<V: Venue>(venue: &V, price: u32, volume: u32, fills: &[Fill]) -> Result<(), Cause>
-    ensures { (t : Tape) → stands venue.now t → JudgedAt (setup venue.now) t (Subject.Call price volume) fills.now result }
+    ensures { (t : Tape) → V.stands venue.now t → JudgedAt (V.setup venue.now) t (Subject.Call price volume) fills.now result }
 {
     match venue.phase() {
         Phase::Gathering => {}
@@ -115,7 +115,7 @@ fn check_call<V: Venue>(venue: &V, price: u32, volume: u32, fills: &[Fill]) -> R
 }
 
 fn judge<V: Venue>(venue: &V, claim: &Claim) -> Result<(), Cause>
-    ensures { (t : Tape) → stands venue.now t → JudgedAt (setup venue.now) t claim.now.subject claim.now.fills.items result }
+    ensures { (t : Tape) → V.stands venue.now t → JudgedAt (V.setup venue.now) t claim.now.subject claim.now.fills.items result }
 {
     match claim.subject() {
         Subject::Entry(entry) => check_entry(venue, &entry, claim.fills()),
@@ -125,7 +125,7 @@ fn judge<V: Venue>(venue: &V, claim: &Claim) -> Result<(), Cause>
 
 // Checks a claim against a venue, which it only asks: the phase, then the numbers, then the match laws.
 pub fn check<'a, V: Venue>(venue: &V, claim: &'a Claim) -> Result<Checked<'a>, Cause>
-    ensures judged { (t : Tape) → stands venue.now t → JudgedAt (setup venue.now) t claim.now.subject claim.now.fills.items result }
+    ensures judged { (t : Tape) → V.stands venue.now t → JudgedAt (V.setup venue.now) t claim.now.subject claim.now.fills.items result }
     ensures carries { IfOk result (λ c. c.claim.now ≡ claim.now) }
 {
     judge(venue, claim)?;

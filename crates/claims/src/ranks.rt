@@ -8,7 +8,7 @@ use venue::venue::Venue;
 
 // Copies a side's orders by rank into a list, as many as it has places; says how many.
 pub(crate) fn copy_ranks<V: Venue>(venue: &V, side: Side, list: &mut [Order]) -> usize
-    ensures copied { (t : Tape) → stands venue.now t → take result list.new ≡ take (length list.old) (side_at (setup venue.now) t side) }
+    ensures copied { (t : Tape) → V.stands venue.now t → take result list.new ≡ take (length list.old) (side_at (V.setup venue.now) t side) }
     ensures few { result ≤ length list.old }
 {
     for i in 0..list.len() {

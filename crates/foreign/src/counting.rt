@@ -20,7 +20,7 @@ pub struct Counting<V> {
 impl<V: Venue> Counting<V> {
     // Over a venue of a height below 15, or hands it back.
     pub fn over(below: V) -> Result<Counting<V>, V>
-        ensures { MatchResult result (λ c. (c.below ≡ below) × (c.height ≡ (setup below).height + 1) × (c.admitted ≡ 0)) (λ v. (v ≡ below) × ((setup below).height < 15 → ⊥)) }
+        ensures { MatchResult result (λ c. (c.below ≡ below) × (c.height ≡ (V.setup below).height + 1) × (c.admitted ≡ 0)) (λ v. (v ≡ below) × ((V.setup below).height < 15 → ⊥)) }
     {
         let height = below.height();
         if height >= 15 {

@@ -16,7 +16,7 @@ pub struct Quote {
 }
 
 fn quote_at<L: Places<Record = Order>>(list: &L, price: u32) -> Quote
-    ensures { result ≡ quote_at (contents list.now) price }
+    ensures { result ≡ quote_at (L.contents list.now) price }
 {
     let bought = tonnes_opposite(list, Side::Sell, price);
     let sold = tonnes_opposite(list, Side::Buy, price);
@@ -56,7 +56,7 @@ fn step_at(place: Place<Order>) -> Option<u32>
 
 // The better of a quote and that at a price, if any.
 fn better_of<L: Places<Record = Order>>(list: &L, best: Quote, step: Option<u32>) -> Quote
-    ensures { result ≡ better_of (contents list.now) best step }
+    ensures { result ≡ better_of (L.contents list.now) best step }
 {
     match step {
         None => best,
@@ -73,7 +73,7 @@ fn better_of<L: Places<Record = Order>>(list: &L, best: Quote, step: Option<u32>
 
 // The best quote for a call: of price 1 and of the prices at which what is dealt changes.
 pub fn best_quote<L: Places<Record = Order>>(list: &L) -> Quote
-    ensures { result ≡ best_quote (contents list.now) }
+    ensures { result ≡ best_quote (L.contents list.now) }
 {
     let mut best = quote_at(list, 1);
     for i in 0..list.len() {

@@ -12,8 +12,8 @@ use ranking::rank::Priority;
 
 // Makes every place vacant.
 pub fn clear<L: Places<Record = Order>>(list: &mut L)
-    ensures length { length (contents list.new) ≡ length (contents list.old) }
-    ensures vacant { AllVacant (contents list.new) (length (contents list.old)) }
+    ensures length { length (L.contents list.new) ≡ length (L.contents list.old) }
+    ensures vacant { AllVacant (L.contents list.new) (length (L.contents list.old)) }
 {
     for i in 0..list.len() {
         list.vacate(i);
@@ -22,7 +22,7 @@ pub fn clear<L: Places<Record = Order>>(list: &mut L)
 
 // A vacant place, if there is one.
 pub fn vacant<L: Places<Record = Order>>(list: &L) -> Option<usize>
-    ensures { VacantIn (contents list.now) (length (contents list.now)) result }
+    ensures { VacantIn (L.contents list.now) (length (L.contents list.now)) result }
 {
     for i in 0..list.len() {
         if let Place::Vacant = list.get(i) {
@@ -34,7 +34,7 @@ pub fn vacant<L: Places<Record = Order>>(list: &L) -> Option<usize>
 
 // The order of a number, if it is held, and its place.
 pub fn numbered<L: Places<Record = Order>>(list: &L, number: u32) -> Option<(usize, Order)>
-    ensures { NumberedIn number (contents list.now) (length (contents list.now)) result }
+    ensures { NumberedIn number (L.contents list.now) (length (L.contents list.now)) result }
 {
     for i in 0..list.len() {
         if let Place::Holding(o) = list.get(i) {
@@ -76,7 +76,7 @@ fn add_opposite(sum: u32, side: Side, limit: u32, place: Place<Order>) -> u32
 
 // The tonnes that rest opposite, or the largest number if they are more.
 pub fn tonnes_opposite<L: Places<Record = Order>>(list: &L, side: Side, limit: u32) -> u32
-    ensures { result ≡ capped (held_weight (tonnes_if (opposite side limit)) (contents list.now)) }
+    ensures { result ≡ capped (held_weight (tonnes_if (opposite side limit)) (L.contents list.now)) }
 {
     let mut sum = 0;
     for i in 0..list.len() {

@@ -14,7 +14,7 @@ pub fn check_and_book<V: Venue>(
     ledger: &mut Ledger,
     claim: &Claim,
 ) -> Result<(), Unbooked>
-    ensures judged { (t : Tape) → stands venue.now t → JudgedAt (setup venue.now) t claim.now.subject claim.now.fills.items (verdict result) }
+    ensures judged { (t : Tape) → V.stands venue.now t → JudgedAt (V.setup venue.now) t claim.now.subject claim.now.fills.items (verdict result) }
     ensures booked { BookedOrNot ledger.old.rows claim.now.fills.items ledger.new.rows result }
 {
     let checked = match check(venue, claim) {

@@ -32,8 +32,8 @@ pub(crate) fn reply_of<V: Venue>(
     venue: &mut V,
     request: Request,
 ) -> Result<Reply, AllocError>
-    ensures same { setup venue.new ≡ setup venue.old }
-    ensures replied { IfOk result (λ x. (t : Tape) → stands venue.old t → Replied (setup venue.old) (stands venue.new) t request x) }
+    ensures same { V.setup venue.new ≡ V.setup venue.old }
+    ensures replied { IfOk result (λ x. (t : Tape) → V.stands venue.old t → Replied (V.setup venue.old) (V.stands venue.new) t request x) }
 {
     venue.keeps();
     let mut fills = vec![in heap; Fill::BLANK; venue.capacity()]?;

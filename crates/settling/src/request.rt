@@ -23,7 +23,7 @@ fn claim_reply<W: Venue>(
     request: &Request,
     reply: &Reply,
 ) -> Result<Result<(), Unbooked>, AllocError>
-    ensures { IfOk result (λ b. (u : Tape) → stands venue.now u → Claimed (setup venue.now) u (claimed_for phase request.now reply.now.outcome) (dealt_in reply.now) ledger.old.rows ledger.new.rows b) }
+    ensures { IfOk result (λ b. (u : Tape) → W.stands venue.now u → Claimed (W.setup venue.now) u (claimed_for phase request.now reply.now.outcome) (dealt_in reply.now) ledger.old.rows ledger.new.rows b) }
 {
     let Ok(answer) = &reply.outcome else {
         return Ok(Ok(()));

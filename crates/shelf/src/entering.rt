@@ -35,7 +35,7 @@ pub fn left_of(e: &Entry, number: u32, left: u32) -> Order
 
 // Puts an order in a vacant place, if it rests.
 pub fn lay<L: Places<Record = Order>>(list: &mut L, life: Life, o: Order)
-    ensures { Laid life o (contents list.old) (contents list.new) }
+    ensures { Laid life o (L.contents list.old) (L.contents list.new) }
 {
     if may_rest(life) && o.remaining > 0 {
         if let Some(i) = vacant(list) {

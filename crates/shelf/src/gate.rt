@@ -29,7 +29,7 @@ fn is_early(phase: Phase, e: &Entry) -> bool
 }
 
 fn is_full<L: Places<Record = Order>>(list: &L) -> bool
-    ensures { result ≡ is_full (contents list.now) }
+    ensures { result ≡ is_full (L.contents list.now) }
 {
     match vacant(list) {
         None => true,
@@ -39,7 +39,7 @@ fn is_full<L: Places<Record = Order>>(list: &L) -> bool
 
 // Whether an entry finds less than its minimum.
 fn falls_short<L: Places<Record = Order>>(list: &L, phase: Phase, e: &Entry) -> bool
-    ensures { result ≡ falls_short phase e.now (contents list.now) }
+    ensures { result ≡ falls_short phase e.now (L.contents list.now) }
 {
     match phase {
         Phase::Gathering => false,
@@ -55,7 +55,7 @@ pub fn entry_refusal<L: Places<Record = Order>>(
     e: &Entry,
     room: usize,
 ) -> Option<Cause>
-    ensures { result ≡ entry_refusal (contents list.now) phase next e.now room }
+    ensures { result ≡ entry_refusal (L.contents list.now) phase next e.now room }
 {
     if room < list.len() {
         Some(Cause::FillListShort)
@@ -74,7 +74,7 @@ pub fn entry_refusal<L: Places<Record = Order>>(
 
 // Why a call with a fill list of a length is refused, if it is.
 pub fn call_refusal<L: Places<Record = Order>>(list: &L, phase: Phase, room: usize) -> Option<Cause>
-    ensures { result ≡ call_refusal (contents list.now) phase room }
+    ensures { result ≡ call_refusal (L.contents list.now) phase room }
 {
     if room < list.len() {
         return Some(Cause::FillListShort);

@@ -11,7 +11,7 @@ use crate::venue::Venue;
 
 // Puts a question to a venue.
 pub fn ask<V: Venue>(venue: &V, question: Question) -> Told
-    ensures { Tells (setup venue.now) (stands venue.now) (told question) result }
+    ensures { Tells (V.setup venue.now) (V.stands venue.now) (told question) result }
 {
     match question {
         Question::Capacity => Told::Capacity(venue.capacity()),
@@ -25,9 +25,9 @@ pub fn ask<V: Venue>(venue: &V, question: Question) -> Told
 
 // Sends a request to a venue, and writes down what it was answered.
 fn send<V: Venue>(venue: &mut V, sending: &mut Sending)
-    ensures same { setup venue.new ≡ setup venue.old }
-    ensures stands { (t : Tape) → stands venue.old t → stands venue.new (joined (refusal (setup venue.old) t sending.old) t sending.old.request) }
-    ensures answered { (t : Tape) → stands venue.old t → Sent (setup venue.old) t sending.old sending.new }
+    ensures same { V.setup venue.new ≡ V.setup venue.old }
+    ensures stands { (t : Tape) → V.stands venue.old t → V.stands venue.new (joined (refusal (V.setup venue.old) t sending.old) t sending.old.request) }
+    ensures answered { (t : Tape) → V.stands venue.old t → Sent (V.setup venue.old) t sending.old sending.new }
 {
     let outcome = venue.serve(sending.request, sending.fills.as_mut_slice());
     sending.outcome = Some(outcome);
@@ -35,9 +35,9 @@ fn send<V: Venue>(venue: &mut V, sending: &mut Sending)
 
 // Takes one step.
 fn take_step<V: Venue>(venue: &mut V, step: &mut Step)
-    ensures same { setup venue.new ≡ setup venue.old }
-    ensures stands { (t : Tape) → stands venue.old t → stands venue.new (tape_of (setup venue.old) t step.old) }
-    ensures answered { (t : Tape) → stands venue.old t → Answered (setup venue.old) t step.old step.new }
+    ensures same { V.setup venue.new ≡ V.setup venue.old }
+    ensures stands { (t : Tape) → V.stands venue.old t → V.stands venue.new (tape_of (V.setup venue.old) t step.old) }
+    ensures answered { (t : Tape) → V.stands venue.old t → Answered (V.setup venue.old) t step.old step.new }
 {
     match step {
         Step::Send(sending) => send(venue, sending),
@@ -47,9 +47,9 @@ fn take_step<V: Venue>(venue: &mut V, step: &mut Step)
 
 // Takes steps, one after the other; after it each step holds what it was answered.
 pub fn run<V: Venue>(venue: &mut V, steps: &mut [Step])
-    ensures same { setup venue.new ≡ setup venue.old }
-    ensures stands { (t : Tape) → stands venue.old t → stands venue.new (t ++ admitted steps.new) }
-    ensures whole { (t : Tape) → stands venue.old t → WholeRun (setup venue.old) t steps.old steps.new }
+    ensures same { V.setup venue.new ≡ V.setup venue.old }
+    ensures stands { (t : Tape) → V.stands venue.old t → V.stands venue.new (t ++ admitted steps.new) }
+    ensures whole { (t : Tape) → V.stands venue.old t → WholeRun (V.setup venue.old) t steps.old steps.new }
 {
     for step in steps.iter_mut() {
         take_step(venue, step);

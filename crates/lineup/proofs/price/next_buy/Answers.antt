@@ -12,7 +12,7 @@ returns-then-buy-limit g c = record {
   next = λ b below above l are at.
       let n = buys_few _ _ b l below above are in
       let found = buy_there _ _ b l below above are (omega (arith, at, c.if-left-eq0.false)) in
-      let place : c.saturating-sub.result ≡ length below = omega (arith, c.saturating-sub.ensures, at) in
+      let place : c.saturating_sub.result ≡ length below = omega (arith, c.saturating_sub.ensures, at) in
       let same = holds_same (c.in-Holding.ensures ∙ ap (λ k. get_or (g.L.Places.contents c.args.list.now) k Vacant) place ∙ found.1.1.1) in
       (found.1.0, (found.1.1.0 ∙ ap (λ o. o ∷ found.1.0) (sym same), c.if-buy-limit.true));
 }
@@ -23,7 +23,7 @@ returns-else-buy-limit g c = record {
   next = λ b below above l are at x later is.
       let n = buys_few _ _ b l below above are in
       let found = buy_at _ _ b l below x later (are ∙ ap (λ os. below ++ os) is) in
-      let place : c.saturating-sub.result ≡ length below = omega (arith, c.saturating-sub.ensures, at) in
+      let place : c.saturating_sub.result ≡ length below = omega (arith, c.saturating_sub.ensures, at) in
       let same = ap (λ o. o.price) (holds_same (c.in-Holding.ensures ∙ ap (λ k. get_or (g.L.Places.contents c.args.list.now) k Vacant) place ∙ found)) in
       omega (arith, same, c.if-buy-limit.false);
 }
@@ -34,6 +34,6 @@ returns-in-Vacant g c = record {
   next = λ b below above l are at x later is.
       let n = buys_few _ _ b l below above are in
       let found = buy_at _ _ b l below x later (are ∙ ap (λ os. below ++ os) is) in
-      let place : c.saturating-sub.result ≡ length below = omega (arith, c.saturating-sub.ensures, at) in
+      let place : c.saturating_sub.result ≡ length below = omega (arith, c.saturating_sub.ensures, at) in
       vacant_holds (c.in-Vacant.ensures ∙ ap (λ k. get_or (g.L.Places.contents c.args.list.now) k Vacant) place ∙ found);
 }

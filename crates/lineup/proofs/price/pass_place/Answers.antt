@@ -10,5 +10,5 @@ returns-in-Holding g c b sold y later l holds s =
     let same : y ≡ sell = holds_same (sym holds ∙ c.in-Holding.is) in
     let t = subst (λ o. SweptBy b sold (o ∷ later) c.args.sweep) same s in
     let first = first_sell b sold sell later _ t in
-    let passed = c.pass-buys.ensures b sold (sell ∷ later) l t first.0 first.1 in
-    rw (same, c.pass-sell.ensures) (sell_next b sold sell later _ passed)
+    let passed = c.pass_buys.ensures b sold (sell ∷ later) l t first.0 first.1 in
+    rw (same, c.pass_sell.ensures) (sell_next b sold sell later _ passed)

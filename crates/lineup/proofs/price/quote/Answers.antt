@@ -12,14 +12,14 @@ loop-i-init g c rule b lawful l sound = rw c.start-i.ensures (swept_to_none _ _ 
 pub loop-i-preserved : goal.loop-i-preserved
 loop-i-preserved g c rule b lawful l sound =
     let t = c.loop-i.invariant rule b lawful l sound in
-    swept_to_more _ _ b l _ _ t (omega arith) _ (λ y later holds s. c.pass-place-sweep.ensures b t.sold y later l (c.get.ensures ∙ holds) s)
+    swept_to_more _ _ b l _ _ t (omega arith) _ (λ y later holds s. c.pass_place-sweep.ensures b t.sold y later l (c.get.ensures ∙ holds) s)
 
 pub returns : goal.returns
 returns g c rule b lawful l sound =
     let t = c.loop-i.invariant rule b lawful l sound in
     let none = swept_to_all _ _ b l _ _ t (omega arith) in
-    let passed = c.pass-buys-sweep.ensures b t.sold t.unsold l t.swept (omega arith) (rw none tt) in
+    let passed = c.pass_buys-sweep.ensures b t.sold t.unsold l t.swept (omega arith) (rw none tt) in
     let best = swept_all b t.sold t.unsold _ none passed in
-    let is = c.better.ensures ∙ ap (better _) c.quote-at.ensures in
+    let is = c.better.ensures ∙ ap (better _) c.quote_at.ensures in
     quoted b.buys b.sells c.better.result (best_price_is_best b.next b.buys b.sells sound.sells_live)
     (rw is best)

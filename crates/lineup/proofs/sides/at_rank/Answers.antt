@@ -13,5 +13,5 @@ returns-then-rank-eq0 g c b l =
 pub returns : goal.returns
 returns g c b l =
     let room = gap_left _ _ b l c.args.side in
-    let place : c.saturating-sub.result ≡ (c.args.state.now.capacity - count c.args.side c.args.state.now) + (c.args.rank - 1) = omega (arith, c.saturating-sub.ensures, c.tally-n.ensures.0, room) in
+    let place : c.saturating_sub.result ≡ (c.args.state.now.capacity - count c.args.side c.args.state.now) + (c.args.rank - 1) = omega (arith, c.saturating_sub.ensures, c.tally-n.ensures.0, room) in
     c.occupied.ensures ∙ ap occupant c.get.ensures ∙ rw place (ranked_at _ _ b l c.args.side c.args.rank (omega arith))

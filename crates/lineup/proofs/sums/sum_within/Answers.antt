@@ -7,7 +7,7 @@ use Rattle.lineup.proofs.sums.sum_within.Goals as goal
 
 pub loop-i-preserved : goal.loop-i-preserved
 loop-i-preserved g c =
-    let sum = c.saturating-add-sum.ensures in (
+    let sum = c.saturating_add-sum.ensures in (
       omega arith,
       λ len.
           let places = seen c.args.seer (g.L.Places.contents c.args.list.now) in
@@ -15,7 +15,7 @@ loop-i-preserved g c =
           let worths = worth c.args.side c.args.limit in
           let long = seen_length c.args.seer (g.L.Places.contents c.args.list.now) in
           let step : worths (drop i places) ≡ worth_of c.args.side c.args.limit (get_or places i Vacant) + worths (drop (i + 1) places) = at_drop_more worths places i Vacant (omega arith) in
-          let here = c.tonnes-within.ensures ∙ ap (worth_of c.args.side c.args.limit) c.get.ensures in
+          let here = c.tonnes_within.ensures ∙ ap (worth_of c.args.side c.args.limit) c.get.ensures in
           let inv = c.loop-i.invariant.1 len in
           omega arith,
     )

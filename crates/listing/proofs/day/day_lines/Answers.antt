@@ -8,18 +8,18 @@ use Rattle.listing.proofs.day.day_lines.Goals as goal
 
 pub returns : goal.returns
 returns g c =
-    let records = vec_items c.in-ok-records.records in
-    let steps = c.in-ok-steps.steps in
+    let records = vec_items c.in_ok-records.records in
+    let steps = c.in_ok-steps.steps in
     let answered = c.deal.new.steps in
-    let held = c.as-slice-3.ensures.value ∙ with_items_is steps answered (omega arith) in
+    let held = c.as_slice-3.ensures.value ∙ with_items_is steps answered (omega arith) in
     IfOk-weaker c.listing.result _ _
     (λ v lines. record {
       records = records;
       sent = vec_items steps;
       answered = answered;
-      read = c.in-ok-records.ensures;
-      prepared = subst (λ rs. Prepared 8 rs (vec_items steps)) c.as-slice.ensures.value c.in-ok-steps.ensures;
-      ran = subst (λ ss. DayRun (day_setup (g.R.Ranking.ahead c.args.rule) 8) ss answered) c.as-mut-slice.ensures.value c.deal.ensures;
-      listed = lines ∙ ap (λ rs. listing rs c.as-slice-3.result.now) c.as-slice-2.ensures.value ∙ ap (listing records) held;
+      read = c.in_ok-records.ensures;
+      prepared = subst (λ rs. Prepared 8 rs (vec_items steps)) c.as_slice.ensures.value c.in_ok-steps.ensures;
+      ran = subst (λ ss. DayRun (day_setup (g.R.Ranking.ahead c.args.rule) 8) ss answered) c.as_mut_slice.ensures.value c.deal.ensures;
+      listed = lines ∙ ap (λ rs. listing rs c.as_slice-3.result.now) c.as_slice-2.ensures.value ∙ ap (listing records) held;
     })
     c.listing.ensures

@@ -12,7 +12,7 @@ returns c =
     let pushed = vec_items c.push.new.self in
     let answer = c.args.answer.now in
     let fills = c.args.fills.now in
-    let line = c.in-ok-push.ensures.items ∙ ap (λ x. before ++ x ∷ []) c.answer-line.ensures in
-    IfOk-weaker c.push-fills.result _ _
-    (λ _ filled. push_then before pushed (vec_items c.push-fills.new.lines) (map Filled (take (count_of answer) fills)) (answer_line c.args.count answer) line (filled ∙ ap (λ n. pushed ++ map Filled (take n fills)) c.fill-count.ensures))
-    c.push-fills.ensures
+    let line = c.in_ok-push.ensures.items ∙ ap (λ x. before ++ x ∷ []) c.answer_line.ensures in
+    IfOk-weaker c.push_fills.result _ _
+    (λ _ filled. push_then before pushed (vec_items c.push_fills.new.lines) (map Filled (take (count_of answer) fills)) (answer_line c.args.count answer) line (filled ∙ ap (λ n. pushed ++ map Filled (take n fills)) c.fill_count.ensures))
+    c.push_fills.ensures

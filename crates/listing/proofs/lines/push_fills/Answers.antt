@@ -9,7 +9,7 @@ loop-i-preserved c =
     let fills = c.args.fills.now in
     let i = c.loop-i.i in
     let inside : i < length fills = omega arith in
-    let pushed = c.in-ok-push.ensures.items in
+    let pushed = c.in_ok-push.ensures.items in
     let more = map_more Filled fills i (record { buy = 0; sell = 0; buyer = 0; seller = 0; price = 0; quantity = 0 }) inside in
     let before = c.loop-i.invariant in
     simp (pushed, before, more, append_assoc)

@@ -5,7 +5,7 @@ use Rattle.listing.proofs.records.read_records.Goals as goal
 
 pub loop-item-init : goal.loop-item-init
 loop-item-init c =
-    let becomes = c.into-iter-item-iterator.ensures.into-iter-gives in
+    let becomes = c.into_iter-item-iterator.ensures.into_iter-gives in
     read_none _ _ _ _ (ap (λ r. r.file.now) becomes ∙ c.over-item-items.ensures.file) (ap (λ r. r.position) becomes ∙ c.over-item-items.ensures.start) c.new-records.ensures.items
 
 pub loop-item-preserved : goal.loop-item-preserved
@@ -13,8 +13,8 @@ loop-item-preserved c =
     let file = c.args.file.now in
     let before = c.loop-item.item-iterator in
     let after = c.next.new.self in
-    let more = read_more file before.file.now after.file.now before.position after.position (seen (Some c.in-Some.item)) (vec_items c.loop-item.records) c.request-of.result c.loop-item.invariant c.in-Some.ensures.steps c.request-of.ensures in
-    subst (ReadSoFar file after.file.now after.position) (sym c.in-ok-push.ensures.items) more
+    let more = read_more file before.file.now after.file.now before.position after.position (seen (Some c.in-Some.item)) (vec_items c.loop-item.records) c.request_of.result c.loop-item.invariant c.in-Some.ensures.steps c.request_of.ensures in
+    subst (ReadSoFar file after.file.now after.position) (sym c.in_ok-push.ensures.items) more
 
 pub returns : goal.returns
 returns c =

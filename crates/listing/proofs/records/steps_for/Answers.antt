@@ -17,8 +17,8 @@ loop-item-preserved c =
     let steps = vec_items c.loop-item.steps in
     elim c.match-item.branch [
       | in-Ok+in-ok-unsent+in-ok-push w ↦
-          let sent = prepared_send places records i r c.loop-item-test.true c.item-item.is w.in-Ok.request w.in-ok-unsent.field-0 steps w.in-Ok.is w.in-ok-unsent.ensures c.loop-item.invariant in
-          subst (Prepared places (take (i + 1) records)) (sym (ap vec_items w.steps-is ∙ w.in-ok-push.ensures.items)) sent
+          let sent = prepared_send places records i r c.loop-item-test.true c.item-item.is w.in-Ok.request w.in_ok-unsent.field-0 steps w.in-Ok.is w.in_ok-unsent.ensures c.loop-item.invariant in
+          subst (Prepared places (take (i + 1) records)) (sym (ap vec_items w.steps-is ∙ w.in_ok-push.ensures.items)) sent
       | in-Err w ↦
           let skipped = prepared_skip places records i r c.loop-item-test.true c.item-item.is w.in-Err.field-0 steps w.in-Err.is c.loop-item.invariant in
           subst (Prepared places (take (i + 1) records)) (sym (ap vec_items w.steps-is)) skipped

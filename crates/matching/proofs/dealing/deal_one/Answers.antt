@@ -5,10 +5,10 @@ use Rattle.matching.proofs.dealing.deal_one.Goals as goal
 
 pub returns-in-Entry : goal.returns-in-Entry
 returns-in-Entry g c =
-    one_deal (g.R.Ranking.ahead c.args.rule.now) (g.L.Places.contents c.args.list.now) (g.L.Places.contents c.deal-opposite.new.list)
-    c.args.deal.now (Entry c.in-Entry.o) c.args.left c.deal-opposite.result c.in-Entry.is (omega arith) c.deal-opposite.ensures
+    one_deal (g.R.Ranking.ahead c.args.rule.now) (g.L.Places.contents c.args.list.now) (g.L.Places.contents c.deal_opposite.new.list)
+    c.args.deal.now (Entry c.in-Entry.o) c.args.left c.deal_opposite.result c.in-Entry.is (omega arith) c.deal_opposite.ensures
 
 pub returns-in-Call : goal.returns-in-Call
 returns-in-Call g c =
-    one_deal (g.R.Ranking.ahead c.args.rule.now) (g.L.Places.contents c.args.list.now) (g.L.Places.contents c.deal-pair.new.list)
-    c.args.deal.now (Call c.in-Call.price) c.args.left c.deal-pair.result c.in-Call.is (omega arith) c.deal-pair.ensures
+    one_deal (g.R.Ranking.ahead c.args.rule.now) (g.L.Places.contents c.args.list.now) (g.L.Places.contents c.deal_pair.new.list)
+    c.args.deal.now (Call c.in-Call.price) c.args.left c.deal_pair.result c.in-Call.is (omega arith) c.deal_pair.ensures

@@ -6,5 +6,5 @@ loop-k-init g c = run_start c.args.fills.now
 
 pub loop-k-preserved : goal.loop-k-preserved
 loop-k-preserved g c =
-    run_more c.args.fills.now c.loop-k.k c.loop-k.left (g.L.Places.contents c.loop-k.list) (g.L.Places.contents c.deal-one.new.list)
+    run_more c.args.fills.now c.loop-k.k c.loop-k.left (g.L.Places.contents c.loop-k.list) (g.L.Places.contents c.deal_one.new.list)
     c.loop-k.fills c.in-Some.f c.loop-k-test.true c.loop-k.invariant c.in-Some.ensures

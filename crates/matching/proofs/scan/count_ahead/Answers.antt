@@ -10,8 +10,8 @@ loop-i-preserved g c =
     let w = ahead_of (g.R.Ranking.ahead c.args.rule.now) c.args.o.now in
     let ps = g.L.Places.contents c.args.list.now in
     let inside : c.loop-i.i < length ps = omega (arith, c.len-i-end.ensures) in (
-      omega (arith, c.loop-i.invariant.0, c.one-ahead-n.ensures.weighs, ap (place_weight w) c.get.ensures, held_more w ps c.loop-i.i inside),
-      omega (arith, c.loop-i.invariant.1, c.one-ahead-n.ensures.small),
+      omega (arith, c.loop-i.invariant.0, c.one_ahead-n.ensures.weighs, ap (place_weight w) c.get.ensures, held_more w ps c.loop-i.i inside),
+      omega (arith, c.loop-i.invariant.1, c.one_ahead-n.ensures.small),
     )
 
 pub returns : goal.returns

@@ -10,7 +10,7 @@ loop-i-preserved g c =
     let w = tonnes_if (opposite c.args.side c.args.limit) in
     let ps = g.L.Places.contents c.args.list.now in
     let inside : c.loop-i.i < length ps = omega (arith, c.len-i-end.ensures) in
-    omega (arith, c.loop-i.invariant, c.add-opposite-sum.ensures, ap (place_weight w) c.get.ensures, held_more w ps c.loop-i.i inside)
+    omega (arith, c.loop-i.invariant, c.add_opposite-sum.ensures, ap (place_weight w) c.get.ensures, held_more w ps c.loop-i.i inside)
 
 pub returns : goal.returns
 returns g c =

@@ -26,6 +26,6 @@ returns g c =
       was_fresh = caps.refused.2;
       set_up = (λ i. layered (limits i) (two i) (capped_setup setup stands (collar.below i))) ∙ ap (layered (collar_rule 100 300) ((setup c.args.below).height + 2)) inner;
       fresh = λ fresh. subst (λ x. LayerStands (λ t. p.part.low ≤ p.part.high) (CappedStands setup stands x) p.height (capped_setup setup stands x).height []) (sym collar.below) (collar.stands (under fresh));
-      binds = c.binds-as-below.ensures (λ m. get_or (replicate 64 1000) m 0)
-          (subst (λ x. BindsCaps (capped_setup setup stands x) (λ m. get_or (replicate 64 1000) m 0)) (sym collar.below) (c.binds-its-caps.ensures (replicate 64 1000) table));
+      binds = c.binds_as_below.ensures (λ m. get_or (replicate 64 1000) m 0)
+          (subst (λ x. BindsCaps (capped_setup setup stands x) (λ m. get_or (replicate 64 1000) m 0)) (sym collar.below) (c.binds_its_caps.ensures (replicate 64 1000) table));
     }

@@ -5,9 +5,9 @@ use Rattle.piles.proofs.day.run_over.Goals as goal
 
 pub returns : goal.returns
 returns g c low fresh =
-    let piled = c.in-ok-pile.ensures low fresh in
+    let piled = c.in_ok-pile.ensures low fresh in
     let whole = c.run.ensures.whole [] piled.fresh in
-    let day : DayRun (pile_setup g.V.Venue.setup g.V.Venue.stands c.in-ok-pile.pile) c.args.steps.now c.run.new.steps = record {
+    let day : DayRun (pile_setup g.V.Venue.setup g.V.Venue.stands c.in_ok-pile.pile) c.args.steps.now c.run.new.steps = record {
       whole = whole;
       within_thousand = λ done rest is m. omega (arith, (whole.between_steps done rest is).within_caps (λ k. get_or (replicate 64 1000) k 0) piled.binds tt m, at_most 64 m 1000);
     } in

@@ -11,7 +11,7 @@ pub returns : goal.returns
 returns g c = record {
   capacity = c.crossed-turns.ensures.capacity;
   handled = λ b l sound.
-      let lawful = c.is-lawful.ensures in
+      let lawful = c.is_lawful.ensures in
       let s = c.args.state in
       let quoted = c.quote-quote.ensures _ b lawful l sound in
       let phase = sym l.phase-is ∙ c.in-Gathering.is in

@@ -3,30 +3,30 @@ use Rattle.lineup.proofs.Ranks.{best_none}
 use Rattle.ranked.proofs.Crosses.{bought_lies, crosses, no_buys, no_sells}
 use Rattle.ranked.proofs.cross.cross.Goals as goal
 
-pub returns-in-err-sell : goal.returns-in-err-sell
-returns-in-err-sell g c = rw c.from-residual.ensures (record { few = tt; taken = λ b l. no_sells b (best_none b.sells (c.in-err-sell.ensures b l)) })
+pub returns-in_err-sell : goal.returns-in_err-sell
+returns-in_err-sell g c = rw c.from_residual.ensures (record { few = tt; taken = λ b l. no_sells b (best_none b.sells (c.in_err-sell.ensures b l)) })
 
-pub returns-in-err-bought : goal.returns-in-err-bought
-returns-in-err-bought g c = rw c.from-residual-in-err-bought.ensures (record { few = tt; taken = λ b l. no_buys b (c.in-err-bought.ensures.taken b l).0 })
+pub returns-in_err-bought : goal.returns-in_err-bought
+returns-in_err-bought g c = rw c.from_residual-in_err-bought.ensures (record { few = tt; taken = λ b l. no_buys b (c.in_err-bought.ensures.taken b l).0 })
 
-pub returns-in-err-sold : goal.returns-in-err-sold
-returns-in-err-sold g c = rw c.from-residual-in-err-sold.ensures (record {
+pub returns-in_err-sold : goal.returns-in_err-sold
+returns-in_err-sold g c = rw c.from_residual-in_err-sold.ensures (record {
   few = tt;
   taken = λ b l.
-      let bought = c.in-ok-bought.ensures.taken b l in
-      let best = c.in-ok-sell.ensures b l in
-      no_sells b (c.in-err-sold.ensures.taken _ (bought_lies c.args.price c.args.n _ b _ best _ _ bought)).0;
+      let bought = c.in_ok-bought.ensures.taken b l in
+      let best = c.in_ok-sell.ensures b l in
+      no_sells b (c.in_err-sold.ensures.taken _ (bought_lies c.args.price c.args.n _ b _ best _ _ bought)).0;
 })
 
 pub returns : goal.returns
 returns g c =
-    let bought = c.in-ok-bought.ensures.few in
-    let sold = c.in-ok-sold.ensures.few in
+    let bought = c.in_ok-bought.ensures.few in
+    let sold = c.in_ok-sold.ensures.few in
     let least = c.min.ensures in
     record {
       few = (sold.0 ∙ bought.0, omega arith, omega arith);
       taken = λ b l.
-          let buying = c.in-ok-bought.ensures.taken b l in
-          let best = c.in-ok-sell.ensures b l in
-          crosses _ _ _ b _ best _ _ buying least _ _ (c.in-ok-sold.ensures.taken _ (bought_lies c.args.price c.args.n _ b _ best _ _ buying));
+          let buying = c.in_ok-bought.ensures.taken b l in
+          let best = c.in_ok-sell.ensures b l in
+          crosses _ _ _ b _ best _ _ buying least _ _ (c.in_ok-sold.ensures.taken _ (bought_lies c.args.price c.args.n _ b _ best _ _ buying));
     }

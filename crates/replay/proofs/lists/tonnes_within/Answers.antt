@@ -9,7 +9,7 @@ loop-o-init c = (omega arith, omega arith)
 
 pub loop-o-preserved : goal.loop-o-preserved
 loop-o-preserved c =
-    let more = capped_more (within c.args.side c.args.limit) c.loop-o.sum c.saturating-add-sum.result c.tonnes-of.result c.args.orders.now c.loop-o.o-index _ c.loop-o-test.true c.tonnes-of.ensures c.saturating-add-sum.ensures in
+    let more = capped_more (within c.args.side c.args.limit) c.loop-o.sum c.saturating_add-sum.result c.tonnes_of.result c.args.orders.now c.loop-o.o-index _ c.loop-o-test.true c.tonnes_of.ensures c.saturating_add-sum.ensures in
     (more ∙ c.loop-o.invariant.0, omega arith)
 
 pub returns : goal.returns

@@ -6,7 +6,7 @@ use Rattle.replay.proofs.quote.best_over.Goals as goal
 
 pub loop-o-preserved : goal.loop-o-preserved
 loop-o-preserved c =
-    best_more c.args.buys.now c.args.sells.now c.args.side c.loop-o.best c.better-of-best.result c.step-of.result c.args.steps.now c.loop-o.o-index _ c.loop-o-test.true c.step-of.ensures c.better-of-best.ensures ∙
+    best_more c.args.buys.now c.args.sells.now c.args.side c.loop-o.best c.better_of-best.result c.step_of.result c.args.steps.now c.loop-o.o-index _ c.loop-o-test.true c.step_of.ensures c.better_of-best.ensures ∙
     c.loop-o.invariant
 
 pub returns : goal.returns

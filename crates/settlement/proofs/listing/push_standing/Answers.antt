@@ -6,18 +6,18 @@ use Rattle.settlement.proofs.Ranks.{place_lines, held_lines, places_more}
 use Rattle.settlement.proofs.listing.push_standing.Goals as goal
 
 pub loop-i-init : goal.loop-i-init
-loop-i-init c = refl {a = vec_items c.args.lines.now ++ place_lines 1 c.rank-members-board.result.places}
+loop-i-init c = refl {a = vec_items c.args.lines.now ++ place_lines 1 c.rank_members-board.result.places}
 
 pub loop-i-preserved : goal.loop-i-preserved
 loop-i-preserved c =
-    let places = c.rank-members-board.result.places in
+    let places = c.rank_members-board.result.places in
     let inside : c.loop-i.i < length places = omega arith in
-    places_more (vec_items c.args.lines.now ++ place_lines 1 places) (vec_items c.loop-i.lines) (vec_items c.push-place.new.lines) places c.loop-i.i c.get.result c.loop-i.invariant inside c.get.ensures c.in-ok-push-place.ensures
+    places_more (vec_items c.args.lines.now ++ place_lines 1 places) (vec_items c.loop-i.lines) (vec_items c.push_place.new.lines) places c.loop-i.i c.get.result c.loop-i.invariant inside c.get.ensures c.in_ok-push_place.ensures
 
 pub returns : goal.returns
 returns c =
-    let stand = c.rank-members-board.ensures in
-    let places = c.rank-members-board.result.places in
+    let stand = c.rank_members-board.ensures in
+    let places = c.rank_members-board.result.places in
     let before = vec_items c.args.lines.now in
     let lines = vec_items c.loop-i.lines in
     let i = c.loop-i.i in
@@ -30,5 +30,5 @@ returns c =
       sum = c.sum.result;
       ranked = stand.ranked;
       sums = c.sum.ensures;
-      are = c.in-ok-push.ensures.items ∙ ap (λ ls. ls ++ Total c.sum.result ∷ []) all ∙ append_assoc before (member_lines 1 stand.members) (Total c.sum.result ∷ []);
+      are = c.in_ok-push.ensures.items ∙ ap (λ ls. ls ++ Total c.sum.result ∷ []) all ∙ append_assoc before (member_lines 1 stand.members) (Total c.sum.result ∷ []);
     }

@@ -9,10 +9,10 @@ loop-i-init g c =
 
 pub loop-i-preserved : goal.loop-i-preserved
 loop-i-preserved g c =
-    let done = c.in-ok-fault.ensures in
-    so_far_more g.V.Venue.setup g.V.Venue.stands g.W.Venue.setup g.W.Venue.stands c.args.first.now c.loop-i.first c.settle-item.new.first c.args.second.now c.loop-i.second c.settle-item.new.second
-    c.args.ledger.now.rows c.loop-i.ledger.rows c.settle-item.new.ledger.rows c.args.items.now c.loop-i.i c.index-items-i.result (vec_items c.loop-i.notes) (vec_items c.note.new.notes) c.in-ok-fault.fault
-    c.loop-i.invariant c.loop-i-test.true c.index-items-i.is done.first done.second done.settled c.in-ok-note.ensures
+    let done = c.in_ok-fault.ensures in
+    so_far_more g.V.Venue.setup g.V.Venue.stands g.W.Venue.setup g.W.Venue.stands c.args.first.now c.loop-i.first c.settle_item.new.first c.args.second.now c.loop-i.second c.settle_item.new.second
+    c.args.ledger.now.rows c.loop-i.ledger.rows c.settle_item.new.ledger.rows c.args.items.now c.loop-i.i c.index-items-i.result (vec_items c.loop-i.notes) (vec_items c.note.new.notes) c.in_ok-fault.fault
+    c.loop-i.invariant c.loop-i-test.true c.index-items-i.is done.first done.second done.settled c.in_ok-note.ensures
 
 pub returns : goal.returns
 returns g c =

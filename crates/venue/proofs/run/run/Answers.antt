@@ -18,11 +18,11 @@ loop-step-preserved g c =
     let in_before : i < length before = omega arith in
     let in_now : i < length now = omega arith in
     let read = read_same now before i c.step-item.result in_now in_before c.loop-step.invariant.1 in
-    let written = take_more_set now i c.take-step.new.step in_now in
-    let taken = c.take-step.ensures in
-    let all = taken_more g.V.Venue.setup g.V.Venue.stands c.args.venue.now c.loop-step.venue c.take-step.new.venue (take i before) (take i now) (get_or now i c.step-item.result) c.take-step.new.step c.loop-step.invariant.0
+    let written = take_more_set now i c.take_step.new.step in_now in
+    let taken = c.take_step.ensures in
+    let all = taken_more g.V.Venue.setup g.V.Venue.stands c.args.venue.now c.loop-step.venue c.take_step.new.venue (take i before) (take i now) (get_or now i c.step-item.result) c.take_step.new.step c.loop-step.invariant.0
     (record { same = taken.same; stood = taken.stands; ran = λ t h. (taken.answered t h, tt) }) in
-    (simp (read, written) all, rest_same now before i c.take-step.new.step in_now in_before c.loop-step.invariant.1)
+    (simp (read, written) all, rest_same now before i c.take_step.new.step in_now in_before c.loop-step.invariant.1)
 
 pub returns : goal.returns
 returns g c =

@@ -12,7 +12,7 @@ returns g c =
     -- what `serve` promised, over the list that the request brought
     let served : (t : Tape) → g.V.Venue.stands c.args.venue.now t →
     Served (g.V.Venue.setup c.args.venue.now) (g.V.Venue.stands c.serve-outcome.new.self) t sending.request sending.fills.items left c.serve-outcome.result =
-    λ t s. simp c.as-mut-slice.ensures.value at (c.serve-outcome.ensures.served t s) in
+    λ t s. simp c.as_mut_slice.ensures.value at (c.serve-outcome.ensures.served t s) in
     record {
       same = c.serve-outcome.ensures.same;
       stands = λ t s. (served t s).tape;

@@ -11,10 +11,10 @@ returns g c =
       same = ap (raised self.height) same;
       served = λ t s.
           let below = c.serve.ensures.served t s.stands_below in
-          let was = sym c.in-ok-answer.was ∙ below.answered in
+          let was = sym c.in_ok-answer.was ∙ below.answered in
           record {
             answered = was;
             list = below.list;
-            tape = one_more _ self.height _ self.admitted _ t c.args.request (s.one_higher ∙ ap (λ v. v.height + 1) (sym same)) s.counted c.saturating-add-self.ensures _ _ _ was below.tape;
+            tape = one_more _ self.height _ self.admitted _ t c.args.request (s.one_higher ∙ ap (λ v. v.height + 1) (sym same)) s.counted c.saturating_add-self.ensures _ _ _ was below.tape;
           };
     }

@@ -9,10 +9,10 @@ returns-in-Some g c =
 
 pub returns-in-None : goal.returns-in-None
 returns-in-None g c =
-    let dealt = c.deal-call-count.ensures in
+    let dealt = c.deal_call-count.ensures in
     record {
       same = record { same_rule = refl; same_places = run_length dealt.run_to.run };
       served = λ t s.
-          call_so t s c.args.fills.now c.in-None.ensures (g.L.Places.contents c.deal-call-count.new.list) c.deal-call-count.new.fills c.deal-call-count.result
-          c.best-quote-best.result c.called-price-price.result c.count-of.result c.best-quote-best.ensures c.called-price-price.ensures c.count-of.ensures dealt;
+          call_so t s c.args.fills.now c.in-None.ensures (g.L.Places.contents c.deal_call-count.new.list) c.deal_call-count.new.fills c.deal_call-count.result
+          c.best_quote-best.result c.called_price-price.result c.count_of.result c.best_quote-best.ensures c.called_price-price.ensures c.count_of.ensures dealt;
     }

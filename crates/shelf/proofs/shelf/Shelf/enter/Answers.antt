@@ -17,18 +17,18 @@ returns-in-None g c =
     let next = c.args.self.now.next in
     let rule = g.R.Ranking.ahead c.args.self.now.rule in
     let lent = c.args.fills.now in
-    let list = c.deal-entry-count.new.fills in
-    let qs = g.L.Places.contents c.deal-entry-count.new.list in
+    let list = c.deal_entry-count.new.fills in
+    let qs = g.L.Places.contents c.deal_entry-count.new.list in
     let rs = g.L.Places.contents c.lay.new.list in
-    let r = c.deal-entry-count.result in
+    let r = c.deal_entry-count.result in
     let o = left_of e next e.quantity in
     let dealt : DealtNow rule phase o ps lent qs list r =
-    subst (λ x. DealtNow rule phase x ps lent qs list r) (c.left-of-order.ensures ∙ ap (left_of e next) c.quantity.ensures.value) c.deal-entry-count.ensures in
+    subst (λ x. DealtNow rule phase x ps lent qs list r) (c.left_of-order.ensures ∙ ap (left_of e next) c.quantity.ensures.value) c.deal_entry-count.ensures in
     let laid : Laid e.life (left_of e next r.1) qs rs =
-    subst (λ l. Laid l (left_of e next r.1) qs rs) c.life.ensures (subst (λ x. Laid c.life.result x qs rs) c.left-of.ensures c.lay.ensures) in
+    subst (λ l. Laid l (left_of e next r.1) qs rs) c.life.ensures (subst (λ x. Laid c.life.result x qs rs) c.left_of.ensures c.lay.ensures) in
     record {
       same = record { same_rule = refl; same_places = laid.same_length ∙ now_length rule phase o ps lent qs list r dealt };
       served = λ t s.
-          entry_dealt t s e lent list c.in-None.ensures qs r dealt rs c.entry-answer.result laid
-          (c.entry-answer.ensures ∙ ap (λ k. entry_answer e next k r.1) c.count-of.ensures);
+          entry_dealt t s e lent list c.in-None.ensures qs r dealt rs c.entry_answer.result laid
+          (c.entry_answer.ensures ∙ ap (λ k. entry_answer e next k r.1) c.count_of.ensures);
     }

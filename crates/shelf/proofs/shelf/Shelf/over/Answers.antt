@@ -12,5 +12,5 @@ returns g c =
     record {
       fit = omega arith;
       plain = ap (book_setup rule) same;
-      fresh = stands_new rule c.is-lawful.ensures ps (omega arith) (omega arith) (subst (AllVacant ps) (sym same) c.clear.ensures.vacant);
+      fresh = stands_new rule c.is_lawful.ensures ps (omega arith) (omega arith) (subst (AllVacant ps) (sym same) c.clear.ensures.vacant);
     }
