@@ -10,7 +10,7 @@ pub loop-step-preserved : goal.loop-step-preserved
 loop-step-preserved c =
     let inside : c.loop-step.step-index < length c.args.steps.now = omega arith in
     let rest = admitted_rest c.args.steps.now c.loop-step.step-index c.step-item.result inside c.step-item.is in
-    elim c.if-is_admitted.branch [ then-is_admitted w ↦ (grind (arith, nat_tests), omega (arith, w.count_is)) | else-is_admitted w ↦ (grind (arith, nat_tests), omega (arith, w.count_is)) ]
+    elim c.if-is_admitted.branch [ then-is_admitted w ↦ (grind (arith, nat_tests), omega (arith, w.count-is)) | else-is_admitted w ↦ (grind (arith, nat_tests), omega (arith, w.count-is)) ]
 
 pub returns : goal.returns
 returns c =

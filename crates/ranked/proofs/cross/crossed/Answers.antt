@@ -24,8 +24,8 @@ returns g c = record {
       let same : c.narrowed.result ≡ c.loop-count.count = omega (arith, c.narrowed.ensures, l.small) in
       let on = calling_on _ b _ _ _ _ _ _ _ calling in
       elim c.loop-count-test.branch [
-        | else-loop-count-test w ↦ rw (w.list_is, same) (crossed_so (calling_used _ b _ _ _ _ _ _ _ calling (none_left _ (λ some. omega (arith, (on some).1, few, w.loop-count-test.false)))))
-        | then-loop-count-test+then-left-eq0 w ↦ rw (w.list_is, same) (crossed_so (calling_used _ b _ _ _ _ _ _ _ calling w.if-left-eq0.true))
+        | else-loop-count-test w ↦ rw (w.list-is, same) (crossed_so (calling_used _ b _ _ _ _ _ _ _ calling (none_left _ (λ some. omega (arith, (on some).1, few, w.loop-count-test.false)))))
+        | then-loop-count-test+then-left-eq0 w ↦ rw (w.list-is, same) (crossed_so (calling_used _ b _ _ _ _ _ _ _ calling w.if-left-eq0.true))
         | then-loop-count-test+else-left-eq0+in-None w ↦ absurd (omega (arith, (on (omega (arith, w.if-left-eq0.false))).0, w.in-None.ensures.taken _ calling.lies))
       ];
 }

@@ -10,8 +10,8 @@ pub loop-i-preserved : goal.loop-i-preserved
 loop-i-preserved c =
     let inside : c.loop-i.i < length c.loop-i.orders = omega arith in
     elim c.if-is_within.branch [
-      | then-is_within w ↦ rw (w.orders-is, w.n_is) (FiltersInPlace-more_set c.loop-i.invariant inside (sym c.is_within.ensures ∙ w.if-is_within.true) (get_or_default c.loop-i.orders c.loop-i.i _ _ inside))
-      | else-is_within w ↦ rw (w.orders-is, w.n_is) (FiltersInPlace-more_no c.loop-i.invariant inside (sym c.is_within.ensures ∙ w.if-is_within.false) (get_or_default c.loop-i.orders c.loop-i.i _ _ inside))
+      | then-is_within w ↦ rw (w.orders-is, w.n-is) (FiltersInPlace-more_set c.loop-i.invariant inside (sym c.is_within.ensures ∙ w.if-is_within.true) (get_or_default c.loop-i.orders c.loop-i.i _ _ inside))
+      | else-is_within w ↦ rw (w.orders-is, w.n-is) (FiltersInPlace-more_no c.loop-i.invariant inside (sym c.is_within.ensures ∙ w.if-is_within.false) (get_or_default c.loop-i.orders c.loop-i.i _ _ inside))
     ]
 
 pub returns : goal.returns
