@@ -14,10 +14,10 @@ returns g c = record {
       let lawful = c.is_lawful.ensures in
       let s = c.args.state in
       let quoted = c.quote-quote.ensures _ b lawful l sound in
-      let phase = sym l.phase-is ∙ c.in-Gathering.is in
+      let phase = sym l.phase_is ∙ c.in-Gathering.is in
       let has = call_has _ lawful b sound _ _ quoted.0 quoted.1 in
       let room = call_room _ lawful b sound _ _ quoted.0 quoted.1 s _ l in
-      let begun = relabelled _ _ _ b (dealing b) l refl refl refl refl refl refl l.next-is in
+      let begun = relabelled _ _ _ b (dealing b) l refl refl refl refl refl refl l.next_is in
       let crossed = c.crossed-turns.ensures.dealt _ (dealing b) begun (dealing_sound b sound) has.0 has.1 room in
       call_accepted _ lawful b sound _ _ quoted.0 quoted.1 s _ _ _ _ _
       (ap (λ x. first (when x FillListShort) (when (is_dealing b.phase) WrongPhase)) (le-ltb _ _ (omega arith)) ∙ ap (λ p. when (is_dealing p) WrongPhase) phase)

@@ -10,9 +10,9 @@ returns-in-Gathering g c = record {
   capacity = c.conclude.ensures.capacity;
   handled = λ b l sound.
       let e = c.args.entry.now in
-      let phase = sym l.phase-is ∙ c.in-Gathering.is in
-      let given = relabelled _ _ _ b (number_given b) l refl refl refl refl refl l.phase-is (ap (λ k. k + 1) l.next-is) in
-      let done = c.conclude.ensures.concluded b [] (rw (none_dealt _ b sound) given) l.next-is refl refl in
+      let phase = sym l.phase_is ∙ c.in-Gathering.is in
+      let given = relabelled _ _ _ b (number_given b) l refl refl refl refl refl l.phase_is (ap (λ k. k + 1) l.next_is) in
+      let done = c.conclude.ensures.concluded b [] (rw (none_dealt _ b sound) given) l.next_is refl refl in
       entry_accepted _ b e [] _ _ _ _ _ (ap (λ p. entry_fills p e b) phase) (sym (c.in-None.ensures.refused b l)) done.1 refl done.0 c.conclude.ensures.capacity;
 }
 
@@ -23,11 +23,11 @@ returns-in-Dealing g c = record {
       let e = c.args.entry.now in
       let fs = entry_fills Dealing e b in
       let lawful = c.is_lawful.ensures in
-      let phase = sym l.phase-is ∙ c.in-Dealing.is in
-      let given = relabelled _ _ _ b (number_given b) l refl refl refl refl refl l.phase-is (ap (λ k. k + 1) l.next-is) in
+      let phase = sym l.phase_is ∙ c.in-Dealing.is in
+      let given = relabelled _ _ _ b (number_given b) l refl refl refl refl refl l.phase_is (ap (λ k. k + 1) l.next_is) in
       let n = c.dealable-n.ensures.deals b l in
       let taken = c.deal-turns.ensures.dealt (number_given b) given (turns_fit _ _ (number_given b) given _ _ _) in
-      let turns = turns_come_to _ b sound lawful e _ _ _ _ _ _ _ l.next-is n taken in
-      let done = c.conclude-in-Dealing.ensures.concluded b fs turns.0 l.next-is (n ∙ sym (tonnes_dealt _ b sound lawful e)) turns.1 in
+      let turns = turns_come_to _ b sound lawful e _ _ _ _ _ _ _ l.next_is n taken in
+      let done = c.conclude-in-Dealing.ensures.concluded b fs turns.0 l.next_is (n ∙ sym (tonnes_dealt _ b sound lawful e)) turns.1 in
       entry_accepted _ b e fs _ _ _ _ _ (ap (λ p. entry_fills p e b) phase) (sym (c.in-None.ensures.refused b l)) done.1 turns.2 done.0 (c.conclude-in-Dealing.ensures.capacity ∙ c.deal-turns.ensures.few.0);
 }

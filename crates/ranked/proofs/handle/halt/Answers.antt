@@ -9,10 +9,10 @@ pub returns : goal.returns
 returns g c = record {
   capacity = refl;
   handled = λ rule b lent l. record {
-    admitted = ap (λ p. when (not (is_dealing p)) WrongPhase) (sym l.phase-is ∙ c.in-Dealing.is);
+    admitted = ap (λ p. when (not (is_dealing p)) WrongPhase) (sym l.phase_is ∙ c.in-Dealing.is);
     answered = refl;
     list = refl;
-    lies = relabelled _ _ _ b _ l refl refl refl refl refl refl l.next-is;
+    lies = relabelled _ _ _ b _ l refl refl refl refl refl refl l.next_is;
     capacity = refl;
   };
 }

@@ -10,10 +10,10 @@ returns-then-not-are_within c = record {
   balanced = c.args.self.now.balanced;
 }
 
-pub invariant-of-self : goal.invariant-of-self
-invariant-of-self c =
+pub invariant_of-self : goal.invariant_of-self
+invariant_of-self c =
     let books = books _ _ _ c.add_fills-rows.ensures.added c.add_fills-rows.ensures.long c.if-not-are_within.ensures in
-    (booked_balance _ _ c.args.fills.now c.args.self.now.balanced books, (sym c.if-not-are_within.ensures, tt))
+    record { balanced = booked_balance _ _ c.args.fills.now c.args.self.now.balanced books; within = sym c.if-not-are_within.ensures }
 
 pub returns : goal.returns
 returns c =

@@ -2,5 +2,5 @@ use Rattle.std.proofs.Common.{refl}
 use Rattle.ledger.proofs.Balance.{none_balance}
 use Rattle.ledger.proofs.totals.Ledger.new.Goals as goal
 
-pub invariant-of-result : goal.invariant-of-result
-invariant-of-result c = (none_balance, (refl, tt))
+pub invariant_of-result : goal.invariant_of-result
+invariant_of-result c = record { balanced = none_balance; within = refl }

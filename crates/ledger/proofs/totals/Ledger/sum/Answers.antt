@@ -7,20 +7,20 @@ use Rattle.ledger.proofs.totals.Ledger.sum.Goals as goal
 pub loop-member-init : goal.loop-member-init
 loop-member-init c = summed_none c.args.self.now.rows c.args.self.now.within
 
-pub overflow-add-sum : goal.overflow-add-sum
-overflow-add-sum c =
+pub overflow_add-sum : goal.overflow_add-sum
+overflow_add-sum c =
     omega (arith, sum_fits c.args.self.now.rows c.args.self.now.within c.loop-member.member c.loop-member.sum c.row-row.result c.loop-member.invariant c.row-row.ensures c.loop-member-test.true Buy tonnes)
 
-pub overflow-add-sum-in-loop-member : goal.overflow-add-sum-in-loop-member
-overflow-add-sum-in-loop-member c =
+pub overflow_add-sum-in-loop-member : goal.overflow_add-sum-in-loop-member
+overflow_add-sum-in-loop-member c =
     omega (arith, sum_fits c.args.self.now.rows c.args.self.now.within c.loop-member.member c.loop-member.sum c.row-row.result c.loop-member.invariant c.row-row.ensures c.loop-member-test.true Sell tonnes)
 
-pub overflow-add-sum-in-loop-member-2 : goal.overflow-add-sum-in-loop-member-2
-overflow-add-sum-in-loop-member-2 c =
+pub overflow_add-sum-in-loop-member-2 : goal.overflow_add-sum-in-loop-member-2
+overflow_add-sum-in-loop-member-2 c =
     omega (arith, sum_fits c.args.self.now.rows c.args.self.now.within c.loop-member.member c.loop-member.sum c.row-row.result c.loop-member.invariant c.row-row.ensures c.loop-member-test.true Buy pence)
 
-pub overflow-add-sum-in-loop-member-3 : goal.overflow-add-sum-in-loop-member-3
-overflow-add-sum-in-loop-member-3 c =
+pub overflow_add-sum-in-loop-member-3 : goal.overflow_add-sum-in-loop-member-3
+overflow_add-sum-in-loop-member-3 c =
     omega (arith, sum_fits c.args.self.now.rows c.args.self.now.within c.loop-member.member c.loop-member.sum c.row-row.result c.loop-member.invariant c.row-row.ensures c.loop-member-test.true Sell pence)
 
 pub loop-member-preserved : goal.loop-member-preserved
