@@ -15,7 +15,7 @@ use Rattle.plain.specs.Rule.{Rule}
 use Rattle.plain.specs.Orders.{find, within, other}
 use Rattle.plain.specs.Book.{Book, Tape, fresh, side, resting, reach, put, entry_fills, withdrawn, call_fills, reply, from}
 use Rattle.orders.specs.Causes.{first, when}
-use Rattle.plain.specs.Gate.{early, unreached, refused_by, AdmittedFrom}
+use Rattle.plain.specs.Gate.{early, unreached, is_dealing, refused_by, AdmittedFrom}
 use Rattle.plain.specs.Promises.{AlwaysWithinCapacity}
 use Rattle.plain.proofs.Kept.{keep_few}
 use Rattle.plain.proofs.Thinned.{Thinned, keep_thins, settled_thins, thinned_few}
@@ -38,19 +38,31 @@ module _ (capacity : ℕ) (b : Book) (n : ℕ) where
 
   entry_has_place : (e : Entry) → refused_by capacity b (Enter e) n ≡ None → length (resting b) < capacity
   entry_has_place e h =
-      let after_List = (first_passed (ltb n capacity) FillListShort _ h).1 in
-      let after_phase = (first_passed (early b.phase e) WrongPhase _ after_List).1 in
+      let after_list = (first_passed (ltb n capacity) FillListShort _ h).1 in
+      let after_phase = (first_passed (early b.phase e) WrongPhase _ after_list).1 in
       leb-false capacity (length (resting b)) (first_passed (leb capacity (length (resting b))) BookFull _ after_phase).0
 
-  -- an entry that was admitted while dealing reaches its minimum
+  -- the last two tests of an entry
+  entry_last_tests : (e : Entry) → refused_by capacity b (Enter e) n ≡ None → (ltb 999999 b.next ≡ false) × (when (unreached b.phase e b) BelowMinimum ≡ None)
+  entry_last_tests e h =
+      let after_list = (first_passed (ltb n capacity) FillListShort _ h).1 in
+      let after_phase = (first_passed (early b.phase e) WrongPhase _ after_list).1 in
+      let after_place = (first_passed (leb capacity (length (resting b))) BookFull _ after_phase).1 in
+      first_passed (ltb 999999 b.next) NumbersSpent _ after_place
+
+  -- an entry that was admitted got a number
+  pub entry_numbered : (e : Entry) → refused_by capacity b (Enter e) n ≡ None → ltb 999999 b.next ≡ false
+  entry_numbered e h = (entry_last_tests e h).0
+
+  -- and while dealing it reaches its minimum
   pub entry_reaches : (e : Entry) → refused_by capacity b (Enter e) n ≡ None → b.phase ≡ Dealing → e.minimum ≤ reach e b
   entry_reaches e h dealing =
-      let after_List = (first_passed (ltb n capacity) FillListShort _ h).1 in
-      let after_phase = (first_passed (early b.phase e) WrongPhase _ after_List).1 in
-      let after_place = (first_passed (leb capacity (length (resting b))) BookFull _ after_phase).1 in
-      let after_number = (first_passed (ltb 999999 b.next) NumbersSpent _ after_place).1 in
-      let passed = when_passed (unreached b.phase e b) BelowMinimum after_number in
+      let passed = when_passed (unreached b.phase e b) BelowMinimum (entry_last_tests e h).1 in
       ltb-false (reach e b) e.minimum (subst (λ p. unreached p e b ≡ false) dealing passed)
+
+  -- a call that was admitted came while gathering
+  pub call_gathers : refused_by capacity b Call n ≡ None → is_dealing b.phase ≡ false
+  call_gathers h = when_passed (is_dealing b.phase) WrongPhase (first_passed (ltb n capacity) FillListShort _ h).1
 
 -- how many orders rest
 pub thinned_rest : (phase : Phase) (next : ℕ) {buys sells : List Order} (b : Book) → Thinned b.buys buys → Thinned b.sells sells →

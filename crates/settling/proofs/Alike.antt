@@ -16,7 +16,7 @@ use Rattle.plain.specs.Matched.{EntryMatches}
 use Rattle.plain.specs.Gate.{refused_by, is_dealing}
 use Rattle.plain.specs.Sound.{Sound}
 use Rattle.plain.proofs.StaysSound.{always_sound}
-use Rattle.plain.proofs.Capacity.{entry-numbered, entry_reaches, call-gathers}
+use Rattle.plain.proofs.Capacity.{entry_numbered, entry_reaches, call_gathers}
 use Rattle.plain.proofs.Matched.{fills_are_the_one_list}
 use Rattle.venue.specs.Meaning.{Setup, Kept, Admits, NoCause, book_at, reply_at, outcome}
 use Rattle.claims.specs.declared.claim.Subject.{Subject}
@@ -65,7 +65,7 @@ module _ (v : Setup) (t : Tape) (kept : Kept v t) where
       let b = book_at v t in
       let one = (fills_are_the_one_list v.rule kept.lawful b sound).of_entry x (entry_reaches v.capacity b v.capacity x (passed (Enter x) e) p) in (
         ap (λ ph. not (is_dealing ph)) p,
-        entry-numbered v.capacity b v.capacity x (passed (Enter x) e),
+        entry_numbered v.capacity b v.capacity x (passed (Enter x) e),
         subst (λ ph. EntryMatches v.rule b x (entry_fills ph x b)) (sym p) one.meets,
       )
   forward None (Withdraw x) phase e p = withdrawn_fills x.number (book_at v t) (find x.number (resting (book_at v t)))
@@ -74,7 +74,7 @@ module _ (v : Setup) (t : Tape) (kept : Kept v t) where
     refl,
     record { price_is = refl; volume_is = refl; fills = (fills_are_the_one_list v.rule kept.lawful (book_at v t) sound).of_call.meets },
   )
-  forward None Call Dealing e p = absurd (true≢false (sym (ap is_dealing p) ∙ call-gathers v.capacity (book_at v t) v.capacity (passed Call e)))
+  forward None Call Dealing e p = absurd (true≢false (sym (ap is_dealing p) ∙ call_gathers v.capacity (book_at v t) v.capacity (passed Call e)))
   forward None Halt phase e p = refl
 
   -- it is booked whole if every total fits, and else refused by the limit with nothing changed

@@ -1,5 +1,4 @@
 pub mod Alike
-mod Matching
 mod OfReply
 pub mod Onward
 mod Replying

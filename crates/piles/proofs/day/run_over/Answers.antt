@@ -5,7 +5,7 @@ use Rattle.piles.proofs.day.run_over.Goals as goal
 
 pub returns : goal.returns
 returns g c low fresh =
-    let piled = c.in_ok-pile.ensures low fresh in
+    let piled = c.in_ok-pile.ensures.book low fresh in
     let whole = c.run.ensures.whole [] piled.fresh in
     let day : DayRun (pile_setup g.V.Venue.setup g.V.Venue.stands c.in_ok-pile.pile) c.args.steps.now c.run.new.steps = record {
       whole = whole;

@@ -14,7 +14,7 @@ returns g c =
     record {
       same = c.serve-outcome.ensures.same;
       replied = λ t s.
-          let long : length lent ≡ v.capacity = ap length (c.in_ok-fills.ensures.items-if-clones-equal (λ y same. same)) ∙ length-replicate c.capacity.result _ ∙ c.capacity.ensures t s in
+          let long : length lent ≡ v.capacity = ap length (c.in_ok-fills.ensures.items_if_clones_equal (λ y same. same)) ∙ length-replicate c.capacity.result _ ∙ c.capacity.ensures t s in
           let served : Served v (g.V.Venue.stands c.serve-outcome.new.self) t q lent left c.serve-outcome.result =
           simp c.as_mut_slice.ensures.value at (c.serve-outcome.ensures.served t s) in
           let answered : c.serve-outcome.result ≡ outcome_at v t q = served.answered ∙ ap (λ n. outcome (v.gate t q n) (reply_at v t q)) long in
