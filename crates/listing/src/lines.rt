@@ -112,7 +112,7 @@ fn push_record(
     used: usize,
 ) -> Result<usize, AllocError>
     ensures lines { OnOk result (lines.new.items ≡ lines.old.items ++ first_lines count item.now (drop used steps.now)) }
-    ensures used { made result (λ n. drop n steps.now ≡ steps_after item.now (drop used steps.now)) }
+    ensures used { IfOk result (λ n. drop n steps.now ≡ steps_after item.now (drop used steps.now)) }
 {
     match item {
         Err(cause) => {

@@ -2,14 +2,14 @@ use Rattle.std.proofs.Common.{◌++◌, vec_items, sym, ap, ◌∙◌, append-ni
 use Rattle.listing.proofs.Listed.{next_lines, next_used, none_lines, none_used}
 use Rattle.listing.proofs.lines.push_record.Goals as goal
 
-pub returns-in_ok-push_step : goal.returns-in_ok-push_step
-returns-in_ok-push_step c =
+pub returns-in_ok-push_step-in-Ok : goal.returns-in_ok-push_step-in-Ok
+returns-in_ok-push_step-in-Ok c =
     let item = c.args.item.now in
     let steps = c.args.steps.now in
-    let lines = next_lines c.args.count item c.in-Ok.field-0 steps c.args.used c.index-steps_used.result c.in-Ok.is c.if-used-steps.true c.index-steps_used.is in
+    let lines = next_lines c.args.count item c.in-Ok.field-0 steps c.args.used c.index-steps-used.result c.in-Ok.is c.if-used-steps.true c.index-steps-used.is in
     record {
-      lines = c.in_ok-push_step.ensures ∙ ap (λ l. vec_items c.args.lines.now ++ l) (sym lines);
-      used = next_used item c.in-Ok.field-0 steps c.args.used c.index-steps_used.result c.in-Ok.is c.if-used-steps.true;
+      lines = c.in_ok-push_step-in-Ok.ensures ∙ ap (λ l. vec_items c.args.lines.now ++ l) (sym lines);
+      used = next_used item c.in-Ok.field-0 steps c.args.used c.index-steps-used.result c.in-Ok.is c.if-used-steps.true;
     }
 
 pub returns-else-used-steps : goal.returns-else-used-steps

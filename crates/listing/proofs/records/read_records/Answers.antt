@@ -5,7 +5,7 @@ use Rattle.listing.proofs.records.read_records.Goals as goal
 
 pub loop-item-init : goal.loop-item-init
 loop-item-init c =
-    let becomes = c.into_iter-item-iterator.ensures.into_iter-gives in
+    let becomes = c.into_iter-item-iterator.ensures.into_iter_gives in
     read_none _ _ _ _ (ap (λ r. r.file.now) becomes ∙ c.over-item-items.ensures.file) (ap (λ r. r.position) becomes ∙ c.over-item-items.ensures.start) c.new-records.ensures.items
 
 pub loop-item-preserved : goal.loop-item-preserved
