@@ -37,7 +37,7 @@ module _ {rule : Rule} (lawful : Lawful rule) (b : Book) (sound : Sound rule b) 
   side_live Buy = sound.buys_live
   side_live Sell = sound.sells_live
 
-  kept_live : (f : Order → Bool) (s : Side) (later : ℕ) → b.next ≤ later → AllLive s later (keep f (side s b))
+  pub kept_live : (f : Order → Bool) (s : Side) (later : ℕ) → b.next ≤ later → AllLive s later (keep f (side s b))
   kept_live f s later h = thinned_live s b.next later h (keep_thins f (side s b)) (side_live s)
 
   -- an entry
@@ -56,7 +56,7 @@ module _ {rule : Rule} (lawful : Lawful rule) (b : Book) (sound : Sound rule b) 
         } in
         (live, tt)
 
-    parties_live : (s : Side) → e.side ≡ s →
+    pub parties_live : (s : Side) → e.side ≡ s →
         let os = keep (within s e.price) (side (other s) b) in
         AllLive Buy (b.next + 1) (entry_buyers s (order e b.next) os) × AllLive Sell (b.next + 1) (entry_sellers s (order e b.next) os)
     parties_live Buy is = (order_live Buy is, kept_live (within Buy e.price) Sell (b.next + 1) (omega arith))

@@ -7,7 +7,7 @@ ghost use Rattle.settlement.specs.Totals.{Clear};
 ghost use Rattle.settlement.specs.Day.{DaySettled};
 
 use crate::line::Line;
-use crate::listing::listing;
+use crate::lines::listing;
 use ledger::totals::Ledger;
 use listing::day::PLACES;
 use listing::records::read_records;

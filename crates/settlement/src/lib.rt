@@ -3,4 +3,4 @@
 
 pub mod day;
 pub mod line;
-pub mod listing;
+pub mod lines;

@@ -3,7 +3,7 @@ use Rattle.std.proofs.lemmas.List.{drop_all}
 use Rattle.settlement.specs.declared.line.Line.TheVariants.{Total}
 use Rattle.settlement.specs.Lines.{member_lines}
 use Rattle.settlement.proofs.Ranks.{place_lines, held_lines, places_more}
-use Rattle.settlement.proofs.listing.push_standing.Goals as goal
+use Rattle.settlement.proofs.lines.push_standing.Goals as goal
 
 pub loop-i-init : goal.loop-i-init
 loop-i-init c = refl {a = vec_items c.args.lines.now ++ place_lines 1 c.rank_members-board.result.places}

@@ -1,6 +1,6 @@
 use Rattle.std.proofs.Common.{◌≡◌, ◌+◌, ◌++◌, drop, vec_items}
 use Rattle.settlement.proofs.Ranks.{place_lines}
-use Rattle.settlement.proofs.listing.push_standing.Given as goal
+use Rattle.settlement.proofs.lines.push_standing.Given as goal
 
 -- the lines so far, with those that the rest of the places will have, are all lines
 abbrev pub invariant-loop-i : goal.invariant-loop-i

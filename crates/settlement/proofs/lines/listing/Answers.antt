@@ -3,7 +3,7 @@ use Rattle.std.proofs.lemmas.List.{take_all}
 use Rattle.settlement.specs.declared.line.Line.TheVariants.{Wrong}
 use Rattle.settlement.specs.Lines.{StandingLines}
 use Rattle.settlement.proofs.Faults.{wrong_more}
-use Rattle.settlement.proofs.listing.listing.Goals as goal
+use Rattle.settlement.proofs.lines.listing.Goals as goal
 
 pub loop-noted-preserved : goal.loop-noted-preserved
 loop-noted-preserved c =
