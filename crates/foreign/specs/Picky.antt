@@ -1,5 +1,5 @@
 -- What a picky layer refuses. Assumes nothing.
-use Rattle.std.specs.Prelude.{ℕ, ◌%◌, None, ◌==◌}
+use Rattle.std.specs.Prelude.{◌%◌, None, ◌==◌}
 use Rattle.orders.specs.declared.request.Request.TheVariants.{Enter, Withdraw, Call, Halt}
 use Rattle.orders.specs.declared.refusal.Cause.TheVariants.{LedgerFull}
 use Rattle.orders.specs.Causes.{when}

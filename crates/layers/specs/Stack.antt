@@ -1,5 +1,5 @@
 -- A layer's own rule, and the venue that it makes of the one below. Assumes nothing.
-use Rattle.std.specs.Prelude.{◌≡◌, ℕ, ◌+◌, [], Some, None, Ok, Err, Option, Result}
+use Rattle.std.specs.Prelude.{◌≡◌, ℕ, ◌+◌, Some, None, Ok, Err, Option, Result}
 use Rattle.orders.specs.declared.request.Request.{Request}
 use Rattle.orders.specs.declared.refusal.Cause.{Cause}
 use Rattle.plain.specs.Rule.{Rule}

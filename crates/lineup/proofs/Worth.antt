@@ -6,7 +6,6 @@ use Rattle.orders.specs.declared.order.Order.{Order}
 use Rattle.ranking.specs.declared.place.Place.{Place}
 use Rattle.plain.specs.Orders.{keep, total, within, other}
 use Rattle.plain.specs.Book.{Book, side}
-use Rattle.orders.specs.Causes.{first}
 use Rattle.plain.proofs.Kept.{total_keep}
 use Rattle.lineup.specs.declared.state.State.{State}
 use Rattle.lineup.specs.Layout.{seen, held, worth}

@@ -13,8 +13,8 @@ use Rattle.plain.specs.Dealing.{Pricing, dealt}
 use Rattle.plain.specs.Price.{demand, volume, BestPrice, best_price, call_volume}
 use Rattle.plain.specs.Book.{Book, side, order, reach, price, call_fills, entry_fills, resting_price, entry_buyers, entry_sellers}
 use Rattle.plain.specs.Matching.{MatchLaws}
-use Rattle.plain.specs.Matched.{OneList, CallMatches, EntryMatches, CallPriced}
-use Rattle.plain.specs.Promises.{DealsTheOneList, FillsAreTheOneList, CallPriceIsBest}
+use Rattle.plain.specs.Matched.{OneList, CallMatches, EntryMatches}
+use Rattle.plain.specs.Promises.{FillsAreTheOneList, CallPriceIsBest}
 use Rattle.plain.specs.Sound.{LiveOrder, AllLive, Distinct, Sound}
 use Rattle.plain.proofs.Thinned.{keep_thins, thinned_live, thinned_distinct, thinned_in_sequence}
 use Rattle.plain.proofs.Call.{call_fits}

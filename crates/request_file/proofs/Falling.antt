@@ -1,5 +1,5 @@
 -- Fewer bytes are left after each item that a reader gives.
-use Rattle.std.proofs.Common.{◌≡◌, ℕ, ◌+◌, ◌-◌, ◌<◌, ◌≤◌, Bool, true, false, cond, eqb, ltb, leb, List, length, get_or, IfSome, Some, None, Ok, Err, Option, Result, sym, ap, subst, arith, leb-false}
+use Rattle.std.proofs.Common.{◌≡◌, ℕ, ◌+◌, ◌-◌, ◌<◌, ◌≤◌, eqb, ltb, leb, List, length, get_or, IfSome, Some, None, Ok, Err, Option, Result, sym, ap, subst, arith, leb-false}
 use Rattle.std.proofs.lemmas.Bool.{cond_both}
 use Rattle.request_file.specs.declared.fault.Fault.{Fault}
 use Rattle.request_file.specs.declared.reader.Located.{Located}

@@ -1,11 +1,11 @@
 -- A record that lies whole in the file is what `recordAt` gives.
-use Rattle.std.proofs.Common.{◌≡◌, ℕ, ◌+◌, ◌-◌, ◌<◌, ◌≤◌, List, length, take, drop, Some, None, Ok, Option, sym, refl, ap, ◌∙◌, arith, length-drop, length-take, le-ltb}
+use Rattle.std.proofs.Common.{◌≡◌, ℕ, ◌+◌, ◌-◌, ◌<◌, ◌≤◌, List, length, take, drop, Some, None, Ok, Option, sym, ap, ◌∙◌, arith, length-drop, length-take, le-ltb}
 use borrow.Author.Tests.{lt-leb}
 use Rattle.orders.specs.declared.row.Row.{Row}
 use Rattle.orders.specs.declared.refusal.Cause.TheVariants.{UnknownKind}
 use Rattle.request_file.specs.declared.position.Position.TheVariants.{Before, Ended}
 use Rattle.request_file.specs.Records.{row_in}
-use Rattle.request_file.specs.Reading.{Given, refusal, length_at, framed, record_at, onward}
+use Rattle.request_file.specs.Reading.{refusal, length_at, framed, record_at, onward}
 
 -- the bytes from one place of the file to another
 abbrev between : List ℕ → ℕ → ℕ → List ℕ

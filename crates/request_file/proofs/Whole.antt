@@ -1,13 +1,12 @@
 -- The records that a reader hands out make up the file.
-use Rattle.std.proofs.Common.{◌≡◌, ℕ, zero, suc, ◌+◌, ◌<◌, ◌≤◌, Bool, true, false, cond, eqb, ltb, leb, List, [], ◌∷◌, ◌++◌, length, get_or, take, drop, Some, None, Ok, Err, Option, sym, refl, ap, ◌∙◌, append_assoc, append-nil, arith, length-drop, length-take, take_all, take-add, ltb-false, eqb-true, leb-false, leb-true}
+use Rattle.std.proofs.Common.{◌≡◌, ℕ, zero, suc, ◌+◌, ◌≤◌, eqb, ltb, leb, List, [], ◌∷◌, ◌++◌, length, get_or, take, drop, Some, None, Ok, Err, Option, sym, refl, ap, ◌∙◌, append_assoc, append-nil, arith, length-drop, length-take, take_all, take-add, ltb-false, eqb-true, leb-true}
 use Rattle.std.proofs.lemmas.Bool.{cond_both}
 use Rattle.orders.specs.declared.row.Row.{Row}
-use Rattle.orders.specs.declared.refusal.Cause.TheVariants.{BadVersion, CutShort, UnknownKind}
 use Rattle.request_file.specs.declared.position.Position.{Position}
 use Rattle.request_file.specs.declared.position.Position.TheVariants.{Start, Before, Ended}
 use Rattle.request_file.specs.Records.{row_in}
 use Rattle.request_file.specs.Reading.{Found, Given, length_at, bytes_at, framed, record_at, gives, onward, position_after, given}
-use Rattle.request_file.specs.Whole.{record_of, records, part, parts, up_to, IsNoRefusal, Unrefused, RecordsMakeUpTheFile}
+use Rattle.request_file.specs.Whole.{record_of, records, part, parts, up_to, IsNoRefusal, RecordsMakeUpTheFile}
 
 -- a call that gives no refusal adds the part of what it gives
 abbrev Adds : List ℕ → List ℕ → Given → Type 0

@@ -1,7 +1,7 @@
 -- What a reader gives of a file. The records that it hands out are parts of the file, in its sequence and
 -- apart from one another; where no refusal comes they make up the whole file, with the version byte and the
 -- two length bytes before each. Assumes nothing.
-use Rattle.std.specs.Prelude.{◌≡◌, ℕ, zero, suc, ◌+◌, ◌-◌, ◌*◌, Bool, cond, List, [], ◌∷◌, ◌++◌, length, take, drop, Some, None, Ok, Err, Option, Result, ◌==◌, nat_le, nat_lt, slice_index}
+use Rattle.std.specs.Prelude.{◌≡◌, ℕ, zero, suc, ◌+◌, ◌-◌, ◌*◌, cond, List, length, take, drop, Some, None, Ok, Err, Option, Result, ◌==◌, nat_le, nat_lt, slice_index}
 use Rattle.orders.specs.declared.row.Row.{Row}
 use Rattle.orders.specs.declared.refusal.Cause.{Cause}
 use Rattle.orders.specs.declared.refusal.Cause.TheVariants.{BadVersion, CutShort, UnknownKind}

@@ -1,5 +1,5 @@
 -- No fill that a sound book deals has a price above 100,000.
-use Rattle.std.proofs.Common.{◌≡◌, ℕ, zero, suc, ◌+◌, ◌≤◌, List, [], ◌∷◌, ◌++◌, Some, None, Option, sym, refl, ap, subst, le_refl, arith}
+use Rattle.std.proofs.Common.{◌≡◌, ℕ, zero, suc, ◌+◌, ◌≤◌, List, [], ◌∷◌, ◌++◌, Some, None, Option, sym, refl, subst, le_refl, arith}
 use Rattle.orders.specs.declared.request.Side.{Side}
 use Rattle.orders.specs.declared.request.Side.TheVariants.{Buy, Sell}
 use Rattle.orders.specs.declared.entry.Entry.{Entry}
@@ -13,7 +13,7 @@ use Rattle.plain.specs.Rule.{Rule, Lawful}
 use Rattle.plain.specs.Orders.{find, within}
 use Rattle.plain.specs.Dealing.{Pricing}
 use Rattle.plain.specs.Price.{call_volume}
-use Rattle.plain.specs.Book.{Book, Tape, fresh, resting, order, in_reach, resting_price, entry_buyers, entry_sellers, entry_fills, withdrawn, price, call_buyers, call_sellers, call_fills, reply}
+use Rattle.plain.specs.Book.{Book, Tape, resting, order, in_reach, resting_price, entry_buyers, entry_sellers, entry_fills, withdrawn, price, call_buyers, call_sellers, call_fills, reply}
 use Rattle.plain.specs.Matching.{AllBetween}
 use Rattle.plain.specs.Gate.{refused_by, AdmittedFrom}
 use Rattle.plain.specs.Sound.{LiveOrder, AllLive, Sound}

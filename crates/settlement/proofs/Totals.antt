@@ -27,7 +27,7 @@ use Rattle.settling.specs.declared.fault.Fault.{Fault}
 use Rattle.settling.specs.declared.fault.Noted.{Noted}
 use Rattle.settling.specs.Replies.{refused_at, dealt_to, fills_at, tape_after}
 use Rattle.settling.specs.Settled.{Settled}
-use Rattle.settling.specs.Items.{Item, tape_of, tape_from, ItemSettled, noted, AllSettled, none, more}
+use Rattle.settling.specs.Items.{Item, tape_from, ItemSettled, noted, AllSettled, none, more}
 use Rattle.settling.proofs.Alike.{passed, settled_fits}
 use Rattle.settling.proofs.Onward.{tape_push}
 use Rattle.settlement.specs.Totals.{fills_in, TotalsAre, Clear}

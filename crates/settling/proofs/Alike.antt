@@ -1,5 +1,5 @@
 -- Two venues with the same set-up that stand after the same tape: what the first puts forward passes the second's check.
-use Rattle.std.proofs.Common.{◌≡◌, Bool, true, false, not, List, [], Some, None, Ok, Err, Option, Result, sym, refl, ap, ◌∙◌, subst, arith}
+use Rattle.std.proofs.Common.{◌≡◌, true, false, not, List, [], Some, None, Ok, Err, Option, Result, sym, refl, ap, ◌∙◌, subst, arith}
 use Rattle.std.proofs.lemmas.Bool.{true≢false}
 use Rattle.orders.specs.declared.order.Phase.{Phase}
 use Rattle.orders.specs.declared.order.Phase.TheVariants.{Gathering, Dealing}

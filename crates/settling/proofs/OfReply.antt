@@ -1,5 +1,5 @@
 -- A claim that was made of a reply, checked and booked.
-use Rattle.std.proofs.Common.{◌≡◌, List, take, Some, Ok, vec_items, Option, Result, sym, refl, ap, ◌∙◌, subst}
+use Rattle.std.proofs.Common.{◌≡◌, List, take, Some, Ok, vec_items, Result, sym, ap, ◌∙◌, subst}
 use Rattle.orders.specs.declared.order.Phase.{Phase}
 use Rattle.orders.specs.declared.order.Fill.{Fill}
 use Rattle.orders.specs.declared.request.Request.{Request}

@@ -1,5 +1,5 @@
 -- A cancel makes the order's place vacant. Assumes nothing.
-use Rattle.std.proofs.Common.{◌≡◌, ℕ, ◌+◌, not, eqb, List, ◌++◌, length, drop, set, Some, None, sym, ap, ◌∙◌, arith}
+use Rattle.std.proofs.Common.{◌≡◌, ℕ, not, eqb, List, ◌++◌, length, drop, set, Some, None, sym, ap, ◌∙◌, arith}
 use Rattle.orders.specs.declared.order.Fill.{Fill}
 use Rattle.std.proofs.lemmas.Bool.{ne_eqb, eq-eqb, cond-false}
 use Rattle.orders.specs.declared.cancel.Cancel.{Cancel}

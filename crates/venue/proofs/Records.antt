@@ -14,7 +14,7 @@ use Rattle.venue.specs.declared.step.Sending.{Sending}
 use Rattle.venue.specs.declared.step.Step.{Step}
 use Rattle.venue.specs.declared.step.Step.TheVariants.{Send, Ask}
 use Rattle.venue.specs.Meaning.{Setup, book_at, reply_at, outcome, laid, joined}
-use Rattle.venue.specs.Steps.{refusal, Sent, Answered, tape_of, counted, answered_fills, deal_of, deal, deals, requests, admitted}
+use Rattle.venue.specs.Steps.{refusal, Sent, Answered, tape_of, counted, answered_fills, deal_of, deals, requests, admitted}
 use Rattle.venue.proofs.Turns.{reached, Ran}
 
 -- the plain book's answer counts its fills

@@ -1,5 +1,5 @@
 -- Steps taken one after the other, and one more at the end.
-use Rattle.std.proofs.Common.{◌≡◌, ℕ, ◌+◌, ◌<◌, List, [], ◌∷◌, ◌++◌, length, get_or, take, drop, set, sym, refl, ap, ◌∙◌, subst, arith, drop-set-lt}
+use Rattle.std.proofs.Common.{◌≡◌, ℕ, ◌+◌, ◌<◌, List, [], ◌∷◌, ◌++◌, length, get_or, take, drop, set, sym, refl, ◌∙◌, subst, arith, drop-set-lt}
 use Rattle.std.proofs.lemmas.List.{take_more, drop_more}
 use Rattle.plain.specs.Book.{Tape}
 use Rattle.venue.specs.declared.step.Step.{Step}

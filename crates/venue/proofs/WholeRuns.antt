@@ -1,5 +1,5 @@
 -- What a whole run keeps, at a venue that keeps its word after it.
-use Rattle.std.proofs.Common.{◌≡◌, ℕ, ◌+◌, ◌≤◌, List, [], ◌∷◌, ◌++◌, length, Some, None, Ok, Err, Option, sym, refl, ap, ◌∙◌, subst, append_assoc, arith}
+use Rattle.std.proofs.Common.{◌≡◌, ◌+◌, ◌≤◌, List, [], ◌∷◌, ◌++◌, length, Some, None, Ok, Err, Option, sym, refl, ap, ◌∙◌, subst, append_assoc, arith}
 use Rattle.orders.specs.declared.entry.Entry.{Entry}
 use Rattle.orders.specs.declared.request.Request.{Request}
 use Rattle.orders.specs.declared.request.Request.TheVariants.{Enter, Call}
@@ -28,7 +28,7 @@ use Rattle.venue.specs.declared.step.Step.TheVariants.{Send, Ask}
 use Rattle.venue.specs.Meaning.{Setup, book_at, reply_at, Kept}
 use Rattle.venue.specs.Steps.{refusal, Sent, Answered, answered_fills, deal_of, deal, deals, requests, admitted}
 use Rattle.venue.specs.Runs.{CallKept, SendKept, StepKept, Between, WholeRun}
-use Rattle.venue.proofs.Turns.{reached, Ran}
+use Rattle.venue.proofs.Turns.{Ran}
 use Rattle.venue.proofs.Records.{refused_outcome, refused_list, admitted_outcome, admitted_list, admitted_fills, tape_is, deals_are, ran_split, ran_front, ran_length}
 use Rattle.venue.proofs.Capped.{held_capped, held_before}
 

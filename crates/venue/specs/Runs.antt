@@ -11,7 +11,7 @@ use Rattle.plain.specs.Rule.{Rule}
 use Rattle.plain.specs.Book.{Book, Tape, fresh}
 use Rattle.plain.specs.Matched.{OneList, CallMatches, EntryMatches, CallPriced}
 use Rattle.plain.specs.Sound.{UncrossedWhileDealing}
-use Rattle.plain.specs.Account.{Dealt, record_from, Balanced, bought, resting_to_buy}
+use Rattle.plain.specs.Account.{record_from, Balanced, bought, resting_to_buy}
 use Rattle.plain.specs.Held.{held}
 use Rattle.venue.specs.declared.step.Sending.{Sending}
 use Rattle.venue.specs.declared.step.Step.{Step}

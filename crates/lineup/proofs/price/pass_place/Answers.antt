@@ -1,5 +1,5 @@
-use Rattle.std.proofs.Common.{◌≡◌, [], ◌∷◌, ◌++◌, sym, ap, ◌∙◌, subst}
-use Rattle.lineup.specs.Sweeps.{SweptBy, sell_passed, PassedTo}
+use Rattle.std.proofs.Common.{◌≡◌, ◌∷◌, sym, ◌∙◌, subst}
+use Rattle.lineup.specs.Sweeps.{SweptBy}
 use Rattle.lineup.proofs.Sweeping.{sell_next, first_sell}
 use Rattle.lineup.proofs.Meeting.{holds_same}
 use Rattle.lineup.proofs.price.pass_place.Goals as goal

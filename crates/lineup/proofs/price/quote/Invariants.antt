@@ -1,4 +1,4 @@
-use Rattle.std.proofs.Common.{◌≡◌, ◌-◌}
+use Rattle.std.proofs.Common.{◌-◌}
 use Rattle.plain.specs.Rule.{Rule, Lawful}
 use Rattle.plain.specs.Book.{Book}
 use Rattle.plain.specs.Sound.{Sound}

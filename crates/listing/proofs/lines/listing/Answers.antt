@@ -1,6 +1,5 @@
 use Rattle.std.proofs.Common.{◌≡◌, ◌+◌, [], ◌∷◌, ◌++◌, drop, vec_items, sym, ap, ◌∙◌, append-nil}
 use Rattle.std.proofs.lemmas.List.{drop_all}
-use Rattle.venue.specs.Steps.{admitted}
 use Rattle.listing.specs.declared.line.Line.TheVariants.{End}
 use Rattle.listing.specs.Lines.{record_lines}
 use Rattle.listing.proofs.Listed.{record_more}

@@ -1,4 +1,4 @@
-use Rattle.std.proofs.Common.{◌≡◌, [], vec_items, ap}
+use Rattle.std.proofs.Common.{[], vec_items, ap}
 use Rattle.std.proofs.lemmas.Result.{IfOk-weaker, MatchResult-at_ok}
 use Rattle.piles.specs.Day.{pile_setup}
 use Rattle.settlement.proofs.Alike.{day_clear}
