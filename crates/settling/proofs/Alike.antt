@@ -81,13 +81,13 @@ module _ (v : Setup) (t : Tape) (kept : Kept v t) where
   module _ (rows rows' : List Row) (fills : List Fill) where
     claim_fits : (o : Option Subject) (r : Result (Unit {0}) Unbooked) → Forward o fills → Claimed v t o fills rows rows' r → Fits rows fills → (r ≡ Ok tt) × Booked rows fills rows' (Ok tt)
     claim_fits None r none claim f = (claim.0, none_booked rows rows' fills none claim.1)
-    claim_fits (Some s) (Ok u) holds claim f = (refl, claim.1.0)
+    claim_fits (Some s) (Ok u) holds claim f = (refl, claim.1)
     claim_fits (Some s) (Err (Failed x)) holds claim f = absurd (true≢false (sym (claim.0.passes.1 holds)))
     claim_fits (Some s) (Err (Full x)) holds claim f = absurd (claim.1.1.1 f)
 
     claim_full : (o : Option Subject) (r : Result (Unit {0}) Unbooked) → all_within rows ≡ true → Forward o fills → Claimed v t o fills rows rows' r → (Fits rows fills → ⊥) → (r ≡ Err (Full LedgerFull)) × (rows' ≡ rows)
     claim_full None r within none claim f = absurd (f (none_fits rows fills within none))
-    claim_full (Some s) (Ok u) within holds claim f = absurd (f claim.1.1)
+    claim_full (Some s) (Ok u) within holds claim f = absurd (f claim.2)
     claim_full (Some s) (Err (Failed x)) within holds claim f = absurd (true≢false (sym (claim.0.passes.1 holds)))
     claim_full (Some s) (Err (Full x)) within holds claim f = (ap (λ y. Err (Full y)) claim.1.1.0, claim.1.0)
 

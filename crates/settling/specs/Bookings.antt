@@ -13,8 +13,8 @@ verdict (Ok u) = Ok u
 verdict (Err (Failed c)) = Err c
 verdict (Err (Full c)) = Ok tt
 
--- what the ledger has after it: the fills, or what it had before, where the check failed or, exactly then, a total would be too large
+-- what the ledger has after it: the fills, or what it had before, where the check failed or a total would be too large
 abbrev pub BookedOrNot : List Row → List Fill → List Row → Result (Unit {0}) Unbooked → Type 0
-BookedOrNot rows fills after (Ok u) = Booked rows fills after (Ok u) × Answered rows fills (Ok u)
+BookedOrNot rows fills after (Ok u) = Booked rows fills after (Ok u)
 BookedOrNot rows fills after (Err (Failed c)) = after ≡ rows
 BookedOrNot rows fills after (Err (Full c)) = (after ≡ rows) × Answered rows fills (Err c)

@@ -1,5 +1,5 @@
 -- One request settled between two venues: the first deals it, its fills are claimed against the second, and then the second deals it too. Assumes nothing.
-use Rattle.std.specs.Prelude.{◌≡◌, Bool, true, false, List, Some, None, Ok, Err, Decides, Option, Result}
+use Rattle.std.specs.Prelude.{◌≡◌, Bool, true, false, List, Some, None, Ok, Err, Decides, Option, Result, OnOk}
 use Rattle.orders.specs.declared.order.Phase.{Phase}
 use Rattle.orders.specs.declared.order.Fill.{Fill}
 use Rattle.orders.specs.declared.request.Request.{Request}
@@ -17,6 +17,7 @@ use Rattle.settling.specs.declared.unbooked.Unbooked.TheVariants.{Full}
 use Rattle.settling.specs.declared.fault.Fault.{Fault}
 use Rattle.settling.specs.declared.fault.Fault.TheVariants.{Unbooked as NotBooked, Otherwise}
 use Rattle.settling.specs.Claimed.{subject_of}
+use Rattle.ledger.specs.Booking.{Fits}
 use Rattle.settling.specs.Bookings.{verdict, BookedOrNot}
 use Rattle.settling.specs.Replies.{outcome_at, fills_at, SameReply}
 
@@ -32,7 +33,7 @@ put_forward v t q = claimed_for (book_at v t).phase q (outcome_at v t q)
 -- fills put forward for a subject, checked by a venue after a tape and booked; where nothing is put forward nothing is booked
 abbrev pub Claimed : Setup → Tape → Option Subject → List Fill → List Row → List Row → Result (Unit {0}) Unbooked → Type 0
 Claimed w u None fills rows rows' r = (r ≡ Ok tt) × (rows' ≡ rows)
-Claimed w u (Some s) fills rows rows' r = JudgedAt w u s fills (verdict r) × BookedOrNot rows fills rows' r
+Claimed w u (Some s) fills rows rows' r = JudgedAt w u s fills (verdict r) × BookedOrNot rows fills rows' r × OnOk r (Fits rows fills)
 
 -- what went wrong: first that the claim was not booked, then that the second venue replied otherwise
 abbrev pub fault_of : Result (Unit {0}) Unbooked → Bool → Option Fault

@@ -1,5 +1,7 @@
 ghost use Rattle.plain.specs.Book.{Tape};
+ghost use Rattle.std.specs.Prelude.{OnOk};
 ghost use Rattle.claims.specs.Judged.{JudgedAt};
+ghost use Rattle.ledger.specs.Booking.{Fits};
 ghost use Rattle.settling.specs.Bookings.{verdict, BookedOrNot};
 
 use crate::unbooked::Unbooked;
@@ -16,6 +18,7 @@ pub fn check_and_book<V: Venue>(
 ) -> Result<(), Unbooked>
     ensures judged { (t : Tape) → V.stands venue.now t → JudgedAt (V.setup venue.now) t claim.now.subject claim.now.fills.items (verdict result) }
     ensures booked { BookedOrNot ledger.old.rows claim.now.fills.items ledger.new.rows result }
+    ensures fits { OnOk result (Fits ledger.old.rows claim.now.fills.items) }
 {
     let checked = match check(venue, claim) {
         Ok(checked) => checked,

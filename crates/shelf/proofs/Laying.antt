@@ -30,13 +30,16 @@ module _ (life : Life) (o : Order) (ps : List (Place Order)) where
         same_length = length-set ps k (Holding o);
         orders = λ _ w.
             omega (arith, held_set w ps k (Holding o) h, ap (place_weight w) vacant, cond-true (rests life && ltb 0 o.remaining) (w o) 0 (and_from _ _ stays (lt-ltb 0 o.remaining some)));
-        full = λ full. absurd (true≢false (sym full ∙ lt-leb _ _ (held_room ps k h vacant)));
       }
+
+  -- where a place is vacant the list is not full
+  pub not_full : (k : ℕ) → k < length ps → get_or ps k Vacant ≡ Vacant → is_full ps ≡ true → ⊥
+  not_full k h vacant full = true≢false (sym full ∙ lt-leb _ _ (held_room ps k h vacant))
 
   pub laid_full : VacantIn ps (length ps) None → Laid life o ps ps
   laid_full none =
       let full : length ps ≤ held_weight (λ _. 1) ps = omega (arith, held_all ps none) in
-      record { same_length = refl; orders = λ room w. absurd (true≢false (sym (le-leb _ _ full) ∙ room)); full = λ _. refl }
+      record { same_length = refl; orders = λ room w. absurd (true≢false (sym (le-leb _ _ full) ∙ room)) }
 
 -- fills of nothing settle nothing
 pub settled_none : (side of : Side) (next : ℕ) (xs : List Order) → AllLive of next xs → settled side [] xs ≡ xs

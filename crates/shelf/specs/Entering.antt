@@ -19,11 +19,10 @@ left_of e number left = with_remaining (order e number) left
 abbrev pub resting_weight : Weight → Life → Order → ℕ
 resting_weight w life o = cond (rests life && nat_lt 0 o.remaining) (w o) 0
 
--- the order lies in one more place, if it rests; a full list stays as it is
+-- the order lies in one more place, if it rests
 pub record Laid (life : Life) (o : Order) (ps qs : List (Place Order)) : Type 0 where
   pub same_length : length qs ≡ length ps
   pub orders : is_full ps ≡ false → (w : Weight) → held_weight w qs ≡ resting_weight w life o + held_weight w ps
-  pub full : is_full ps ≡ true → qs ≡ ps
 
 abbrev pub entry_answer : Entry → (number count left : ℕ) → Answer
 entry_answer e number count left =

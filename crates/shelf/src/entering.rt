@@ -1,6 +1,7 @@
-ghost use Rattle.std.specs.Prelude.{◌≡◌, min};
+ghost use Rattle.std.specs.Prelude.{◌≡◌, min, true};
 ghost use Rattle.plain.specs.Book.{rests};
 ghost use Rattle.shelf.specs.Entering.{left_of, Laid, entry_answer};
+ghost use Rattle.shelf.specs.HeldGate.{is_full};
 
 use matching::scan::vacant;
 use orders::answer::{Answer, Entered};
@@ -35,7 +36,8 @@ pub fn left_of(e: &Entry, number: u32, left: u32) -> Order
 
 // Puts an order in a vacant place, if it rests.
 pub fn lay<L: Places<Record = Order>>(list: &mut L, life: Life, o: Order)
-    ensures { Laid life o (L.contents list.old) (L.contents list.new) }
+    ensures laid { Laid life o (L.contents list.old) (L.contents list.new) }
+    ensures full { is_full (L.contents list.old) ≡ true → L.contents list.new ≡ L.contents list.old }
 {
     if may_rest(life) && o.remaining > 0 {
         if let Some(i) = vacant(list) {

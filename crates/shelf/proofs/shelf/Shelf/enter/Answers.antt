@@ -25,7 +25,7 @@ returns-in-None g c =
     let dealt : DealtNow rule phase o ps lent qs list r =
     subst (λ x. DealtNow rule phase x ps lent qs list r) (c.left_of-order.ensures ∙ ap (left_of e next) c.quantity.ensures.value) c.deal_entry-count.ensures in
     let laid : Laid e.life (left_of e next r.1) qs rs =
-    subst (λ l. Laid l (left_of e next r.1) qs rs) c.life.ensures (subst (λ x. Laid c.life.result x qs rs) c.left_of.ensures c.lay.ensures) in
+    subst (λ l. Laid l (left_of e next r.1) qs rs) c.life.ensures (subst (λ x. Laid c.life.result x qs rs) c.left_of.ensures c.lay.ensures.laid) in
     record {
       same = record { same_rule = refl; same_places = laid.same_length ∙ now_length rule phase o ps lent qs list r dealt };
       served = λ t s.
