@@ -10,6 +10,7 @@ use ranking::places::{Lent, Places};
 use ranking::rules::Time;
 use std::alloc::Global;
 use std::process::Abort;
+use std::test::Fail;
 use venue::venue::Venue;
 
 // A fill at 180 of the buys 1 and 2, of members 1 and 3, with the sells 3 and 4, of members 2 and 4.
@@ -36,32 +37,66 @@ fn put<V: Venue>(
     subject: Subject,
     fills: &[Fill],
     expected: u8,
+    what: &str,
 ) -> Result<(), Fail> {
     assert_eq!(rt;
         booked(heap, venue, &mut Ledger::new(), subject, fills)?,
-        expected
+        expected,
+        "{what}"
     );
     Ok(())
 }
 
 // Of an empty book.
 fn tried_empty<V: Venue>(rt: &impl Abort, heap: Global, venue: &V) -> Result<(), Fail> {
-    put(rt, heap, venue, called(5, 0), &[], 16).note("price 5 of an empty call")?;
-    put(rt, heap, venue, called(0, 0), &[], 0).note("an empty call")
+    put(
+        rt,
+        heap,
+        venue,
+        called(5, 0),
+        &[],
+        16,
+        "price 5 of an empty call",
+    )?;
+    put(rt, heap, venue, called(0, 0), &[], 0, "an empty call")
 }
 
 // Of a book that a call deals at 180 for 160 tonnes.
 fn tried_fills<V: Venue>(rt: &impl Abort, heap: Global, venue: &V) -> Result<(), Fail> {
     let subject = called(180, 160);
     let (a, b, c) = (fill(1, 3, 80), fill(1, 4, 20), fill(2, 4, 60));
-    put(rt, heap, venue, subject, &[a, b, c], 0).note("as dealt")?;
-    put(rt, heap, venue, subject, &[c, b, a], 16).note("reversed")?;
+    put(rt, heap, venue, subject, &[a, b, c], 0, "as dealt")?;
+    put(rt, heap, venue, subject, &[c, b, a], 16, "reversed")?;
     let half = fill(1, 4, 10);
-    put(rt, heap, venue, subject, &[a, half, half, c], 16).note("a pair's fill split in two")?;
+    put(
+        rt,
+        heap,
+        venue,
+        subject,
+        &[a, half, half, c],
+        16,
+        "a pair's fill split in two",
+    )?;
     let large = [fill(1, 3, 4294967295), fill(1, 4, 81), fill(2, 4, 80)];
-    put(rt, heap, venue, subject, &large, 16).note("a sum past 32 bits, which is 160 in them")?;
+    put(
+        rt,
+        heap,
+        venue,
+        subject,
+        &large,
+        16,
+        "a sum past 32 bits, which is 160 in them",
+    )?;
     let other = Fill { buyer: 9, ..a };
-    put(rt, heap, venue, subject, &[other, b, c], 16).note("a wrong member")
+    put(
+        rt,
+        heap,
+        venue,
+        subject,
+        &[other, b, c],
+        16,
+        "a wrong member",
+    )
 }
 
 fn tried<L: Places<Record = Order> + Drop>(
@@ -98,9 +133,17 @@ fn tried_dealing<V: Venue>(rt: &impl Abort, heap: Global, venue: &V) -> Result<(
     };
     let subject = Subject::Entry(entry);
     let (a, b) = (sold(1, 2, 50), sold(2, 4, 50));
-    put(rt, heap, venue, subject, &[a, b], 0).note("as dealt")?;
-    put(rt, heap, venue, subject, &[b, a], 16).note("reversed")?;
-    put(rt, heap, venue, called(0, 0), &[], 11).note("a call while dealing")
+    put(rt, heap, venue, subject, &[a, b], 0, "as dealt")?;
+    put(rt, heap, venue, subject, &[b, a], 16, "reversed")?;
+    put(
+        rt,
+        heap,
+        venue,
+        called(0, 0),
+        &[],
+        11,
+        "a call while dealing",
+    )
 }
 
 fn tried_entry<L: Places<Record = Order> + Drop>(

@@ -11,6 +11,7 @@ use settling::items::settle_items;
 use settling::unbooked::Unbooked;
 use shelf::shelf::Shelf;
 use std::alloc::Global;
+use std::test::Fail;
 
 // A fault as numbers: the count of its item, and the refusal of the claim, or 0 where it was answered otherwise.
 fn numbers(noted: &Noted) -> (usize, u8) {

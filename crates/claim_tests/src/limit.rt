@@ -9,6 +9,7 @@ use ranking::rules::Time;
 use shelf::shelf::Shelf;
 use std::alloc::Global;
 use std::process::Abort;
+use std::test::Fail;
 use venue::venue::Venue;
 
 // The fill of a buy and a sell that are all of a book.

@@ -3,6 +3,7 @@ use ledger::standing::{MostBought, rank_members};
 use ledger::totals::Ledger;
 use ranking::finding::first_of;
 use ranking::sequence::in_sequence;
+use std::test::Fail;
 
 #[test]
 fn members_stand_in_sequence(rt: HostRuntime) -> Result<(), Fail> {
@@ -17,7 +18,7 @@ fn members_stand_in_sequence(rt: HostRuntime) -> Result<(), Fail> {
         Some((place, first)) => {
             assert_eq!(rt; (place, first.member), (0, 3), "the first");
             Ok(())
-        },
+        }
         None => Err(Fail::new("no member")),
     }
 }

@@ -133,7 +133,7 @@ fn five<V: Venue + Drop>(below: V) -> Result<Five<V>, Fail> {
 
 // What is done with a venue once it is there.
 trait Then {
-    fn then<V: Venue + Drop>(self, venue: V) -> Result<(), Fail>;
+    fn then<V: Venue + Drop, A: Abort>(self, rt: &A, venue: V) -> Result<(), Fail>;
 }
 
 // Five more layers first.
@@ -141,10 +141,10 @@ trait Then {
 struct Raised<K>(K);
 
 impl<K: Then + Drop> Then for Raised<K> {
-    fn then<V: Venue + Drop>(self, venue: V) -> Result<(), Fail> {
+    fn then<V: Venue + Drop, A: Abort>(self, rt: &A, venue: V) -> Result<(), Fail> {
         let Raised(next) = self;
         match five(venue) {
-            Ok(pile) => next.then(pile),
+            Ok(pile) => next.then(rt, pile),
             Err(fail) => Err(fail),
         }
     }
@@ -155,28 +155,28 @@ impl<K: Then + Drop> Then for Raised<K> {
 struct Highest;
 
 impl Then for Highest {
-    fn then<V: Venue + Drop>(self, venue: V) -> Result<(), Fail> {
+    fn then<V: Venue + Drop, A: Abort>(self, rt: &A, venue: V) -> Result<(), Fail> {
         let Highest = self;
         let mut pile = venue;
-        assert_eq!(pile.height(), 15);
-        assert_eq!(
+        assert_eq!(rt; pile.height(), 15);
+        assert_eq!(rt;
             refusal(&mut pile, &Row::Halt)?,
             (11, 0),
             "the book's own refusal"
         );
-        assert_eq!(set_up(1, 2, pile), 1, "a sixteenth layer");
+        assert_eq!(rt; set_up(1, 2, pile), 1, "a sixteenth layer");
         Ok(())
     }
 }
 
-fn high<L: Places<Record = Order> + Drop>(list: L) -> Result<(), Fail> {
+fn high<L: Places<Record = Order> + Drop, A: Abort>(rt: &A, list: L) -> Result<(), Fail> {
     match Shelf::over(list, Time) {
-        Ok(book) => Raised(Raised(Raised(Highest))).then(book),
+        Ok(book) => Raised(Raised(Raised(Highest))).then(rt, book),
         Err(_) => Err(Fail::new("no book")),
     }
 }
 
 #[test]
-fn fifteen_and_no_more() -> Result<(), Fail> {
-    high(Lent::over(&mut [Place::Vacant; 8]))
+fn fifteen_and_no_more(rt: HostRuntime) -> Result<(), Fail> {
+    high(&rt, Lent::over(&mut [Place::Vacant; 8]))
 }

@@ -62,14 +62,15 @@ fn led_by<R: Priority>(
     rule: &R,
     places: &mut [Place<Order>],
     number: u32,
+    what: &str,
 ) -> Result<(), Fail> {
     let list = Lent::over(places);
-    assert!(rt; in_sequence(&list, rule), "in sequence");
+    assert!(rt; in_sequence(&list, rule), "in sequence: {what}");
     match first_of(&list, rule) {
         Some((place, order)) => {
-            assert_eq!(rt; (place, order.number), (0, number), "the first");
+            assert_eq!(rt; (place, order.number), (0, number), "the first: {what}");
             Ok(())
-        },
+        }
         None => Err(Fail::new("no order")),
     }
 }
@@ -78,11 +79,11 @@ fn led_by<R: Priority>(
 fn sequences(rt: HostRuntime) -> Result<(), Fail> {
     let mut places = [Place::Vacant; 8];
     on_ranked(&rt, Lent::over(&mut [Place::Vacant; 8]), Time, &mut places)?;
-    led_by(&rt, &Time, &mut places, 2).note("ranked, time")?;
+    led_by(&rt, &Time, &mut places, 2, "ranked, time")?;
     assert!(rt;
         !in_sequence(&Lent::over(&mut places), &Size),
         "time is not size"
     );
     on_shelf(&rt, Lent::over(&mut [Place::Vacant; 8]), Size, &mut places)?;
-    led_by(&rt, &Size, &mut places, 3).note("shelf, size")
+    led_by(&rt, &Size, &mut places, 3, "shelf, size")
 }

@@ -1,6 +1,5 @@
 use request_file::reader::Reader;
 use std::process::Abort;
-use std::test::Fail;
 
 // What a file came to: how many records, and the number and offset of the refusal that ended it (0 and 0 for none).
 #[derive(Clone, Copy)]
@@ -30,59 +29,83 @@ fn read_all(file: &[u8]) -> Outcome {
     }
 }
 
-fn comes_to(
-    rt: &impl Abort,
-    file: &[u8],
-    records: usize,
-    refusal: u8,
-    offset: usize,
-) -> Result<(), Fail> {
+fn comes_to(rt: &impl Abort, what: &str, file: &[u8], records: usize, refusal: u8, offset: usize) {
     let came = read_all(file);
-    assert_eq!(rt; came.records, records);
-    assert_eq!(rt; came.refusal, refusal);
-    assert_eq!(rt; came.offset, offset);
-    Ok(())
+    assert_eq!(rt; came.records, records, "{what}");
+    assert_eq!(rt; came.refusal, refusal, "{what}");
+    assert_eq!(rt; came.offset, offset, "{what}");
 }
 
 #[test]
-fn version(rt: HostRuntime) -> Result<(), Fail> {
-    comes_to(&rt, b"", 0, 2, 0).note("an empty file")?;
-    comes_to(&rt, b"\x00", 0, 2, 0).note("version 0")?;
-    comes_to(&rt, b"\x02\x00\x01\x03", 0, 2, 0).note("version 2")?;
-    comes_to(&rt, b"\x01", 0, 0, 0).note("the version byte alone")
+fn version(rt: HostRuntime) {
+    comes_to(&rt, "an empty file", b"", 0, 2, 0);
+    comes_to(&rt, "version 0", b"\x00", 0, 2, 0);
+    comes_to(&rt, "version 2", b"\x02\x00\x01\x03", 0, 2, 0);
+    comes_to(&rt, "the version byte alone", b"\x01", 0, 0, 0);
 }
 
 #[test]
-fn cut_short(rt: HostRuntime) -> Result<(), Fail> {
-    comes_to(&rt, b"\x01\x00", 0, 3, 1).note("one byte left")?;
-    comes_to(&rt, b"\x01\x00\x01", 0, 3, 1).note("a length and nothing after it")?;
-    comes_to(&rt, b"\x01\x00\x01\x03\x00", 1, 3, 4).note("one byte left after a record")?;
-    comes_to(&rt, b"\x01\x00\x02\x03", 0, 3, 1).note("a length past the end")?;
-    comes_to(&rt, b"\x01\xff\xff\x03", 0, 3, 1).note("the longest length")?;
+fn cut_short(rt: HostRuntime) {
+    comes_to(&rt, "one byte left", b"\x01\x00", 0, 3, 1);
     comes_to(
         &rt,
+        "a length and nothing after it",
+        b"\x01\x00\x01",
+        0,
+        3,
+        1,
+    );
+    comes_to(
+        &rt,
+        "one byte left after a record",
+        b"\x01\x00\x01\x03\x00",
+        1,
+        3,
+        4,
+    );
+    comes_to(&rt, "a length past the end", b"\x01\x00\x02\x03", 0, 3, 1);
+    comes_to(&rt, "the longest length", b"\x01\xff\xff\x03", 0, 3, 1);
+    comes_to(
+        &rt,
+        "an entry without its last byte",
         b"\x01\x00\x10\x01\x01\x01\x01\x00\x00\x00\x01\x00\x00\x00\x01\x00\x00\x00",
         0,
         3,
         1,
-    )
-    .note("an entry without its last byte")
+    );
 }
 
 #[test]
-fn kinds_and_lengths(rt: HostRuntime) -> Result<(), Fail> {
-    comes_to(&rt, b"\x01\x00\x00", 0, 4, 1).note("length 0")?;
-    comes_to(&rt, b"\x01\x00\x01\x00", 0, 4, 1).note("kind 0")?;
-    comes_to(&rt, b"\x01\x00\x01\x05", 0, 4, 1).note("kind 5")?;
-    comes_to(&rt, b"\x01\x00\x01\x01", 0, 4, 1).note("an entry of one byte")?;
-    comes_to(&rt, b"\x01\x00\x02\x03\x00", 0, 4, 1).note("a call of two bytes")?;
-    comes_to(&rt, b"\x01\x00\x01\x04\x00\x02\x04\x00", 1, 4, 4).note(
+fn kinds_and_lengths(rt: HostRuntime) {
+    comes_to(&rt, "length 0", b"\x01\x00\x00", 0, 4, 1);
+    comes_to(&rt, "kind 0", b"\x01\x00\x01\x00", 0, 4, 1);
+    comes_to(&rt, "kind 5", b"\x01\x00\x01\x05", 0, 4, 1);
+    comes_to(&rt, "an entry of one byte", b"\x01\x00\x01\x01", 0, 4, 1);
+    comes_to(&rt, "a call of two bytes", b"\x01\x00\x02\x03\x00", 0, 4, 1);
+    comes_to(
+        &rt,
         "a halt of two bytes, after a good one",
-    )?;
-    comes_to(&rt, b"\x01\x00\x05\x02\x01\x00\x00\x00", 0, 4, 1).note("a cancel of five bytes")?;
-    comes_to(&rt, b"\x01\x00\x07\x02\x01\x00\x00\x00\x01\x00", 0, 4, 1).note(
+        b"\x01\x00\x01\x04\x00\x02\x04\x00",
+        1,
+        4,
+        4,
+    );
+    comes_to(
+        &rt,
+        "a cancel of five bytes",
+        b"\x01\x00\x05\x02\x01\x00\x00\x00",
+        0,
+        4,
+        1,
+    );
+    comes_to(
+        &rt,
         "a cancel of seven bytes",
-    )
+        b"\x01\x00\x07\x02\x01\x00\x00\x00\x01\x00",
+        0,
+        4,
+        1,
+    );
 }
 
 #[test]
