@@ -2,8 +2,6 @@
 #![tactic(auto)]
 
 #[cfg(test)]
-mod claims;
-#[cfg(test)]
 mod differing;
 #[cfg(test)]
 mod limit;
@@ -11,3 +9,5 @@ mod limit;
 mod market;
 #[cfg(test)]
 mod standing;
+#[cfg(test)]
+mod tried;

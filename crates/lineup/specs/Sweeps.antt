@@ -1,6 +1,6 @@
 -- A sweep up the prices of both sides' orders. Assumes nothing.
 use Rattle.std.specs.Prelude.{◌≡◌, ℕ, ◌+◌, ◌-◌, ◌^◌, ◌<◌, ◌≤◌, min, Bool, cond, ◌&&◌, ◌||◌, List, [], ◌∷◌, ◌++◌, reverse, length, Some, None, Option, ◌==◌, nat_lt}
-use Rattle.std.specs.List.{AllByRecursion as All}
+use Rattle.std.specs.List.{AllByRecursion}
 use Rattle.orders.specs.declared.request.Side.{Side}
 use Rattle.orders.specs.declared.request.Side.TheVariants.{Buy, Sell}
 use Rattle.orders.specs.declared.order.Order.{Order}
@@ -59,7 +59,7 @@ NoWorse Sell p q = p ≤ q
 
 abbrev pub BestFirst : Side → List Order → Type 0
 BestFirst s [] = Unit {0}
-BestFirst s (o ∷ os) = All (λ x. NoWorse s o.price x.price) os × BestFirst s os
+BestFirst s (o ∷ os) = AllByRecursion (λ x. NoWorse s o.price x.price) os × BestFirst s os
 
 -- a sweep with the buys below it, the others, the sells up to it, and the others, each list from the lowest price
 pub record Swept (b : Book) (below above sold unsold : List Order) (w : Sweep) : Type 0 where
@@ -70,13 +70,13 @@ pub record Swept (b : Book) (below above sold unsold : List Order) (w : Sweep) :
   pub supply_is : w.supply ≡ total sold
   pub low : 1 ≤ w.price
   pub high : w.price ≤ 100000
-  pub below_under : All (λ o. o.price < w.price) below
-  pub above_over : All (λ o. w.price ≤ o.price + 1) above
-  pub sold_under : All (λ o. o.price ≤ w.price) sold
-  pub unsold_over : All (λ o. w.price ≤ o.price) unsold
+  pub below_under : AllByRecursion (λ o. o.price < w.price) below
+  pub above_over : AllByRecursion (λ o. w.price ≤ o.price + 1) above
+  pub sold_under : AllByRecursion (λ o. o.price ≤ w.price) sold
+  pub unsold_over : AllByRecursion (λ o. w.price ≤ o.price) unsold
   pub buys_rise : BestFirst Sell above
   pub sells_rise : BestFirst Sell unsold
-  pub sells_high : All (λ o. o.price ≤ 100000) unsold
+  pub sells_high : AllByRecursion (λ o. o.price ≤ 100000) unsold
   pub sells_fit : total b.sells < 2 ^ 32
   pub best_is : BestBelow (volume b.buys b.sells) (imbalance b.buys b.sells) w.price w.best
 
@@ -91,7 +91,7 @@ pub record PassedTo (limit : ℕ) (b : Book) (sold unsold : List Order) (w : Swe
   pub below : List Order
   pub above : List Order
   pub swept : Swept b below above sold unsold w
-  pub all : All (λ o. limit ≤ o.price) above
+  pub all : AllByRecursion (λ o. limit ≤ o.price) above
 
 -- the lowest buy that is left, if its price is below a limit
 abbrev pub NextBuy : ℕ → List Order → Option Order → Type 0

@@ -1,5 +1,5 @@
 ghost use Rattle.std.specs.Prelude.{◌≡◌, ◌-◌, ◌^◌, ◌<◌, ◌≤◌, min, List, [], ◌∷◌, ◌++◌, reverse, length, OnSome};
-ghost use Rattle.std.specs.List.{AllByRecursion as All};
+ghost use Rattle.std.specs.List.{AllByRecursion};
 ghost use Rattle.orders.specs.declared.order.Order.{Order};
 ghost use Rattle.ranking.specs.declared.place.Place.TheVariants.{Holding};
 ghost use Rattle.plain.specs.Rule.{Rule, Lawful};
@@ -98,7 +98,7 @@ fn pass_buys<L: Places<Record = Order>>(
     mut sweep: Sweep,
     limit: u32,
 ) -> Sweep
-    ensures { (b : Book) (sold unsold : List Order) → Lies (L.Places.contents list.now) state.now b → SweptBy b sold unsold sweep → limit ≤ 100000 → All (λ o. limit ≤ o.price) unsold → PassedTo limit b sold unsold result }
+    ensures { (b : Book) (sold unsold : List Order) → Lies (L.Places.contents list.now) state.now b → SweptBy b sold unsold sweep → limit ≤ 100000 → AllByRecursion (λ o. limit ≤ o.price) unsold → PassedTo limit b sold unsold result }
 {
     while let Some(buy) = next_buy(list, state, sweep.left, limit) {
         sweep = pass_buy(sweep, &buy);
