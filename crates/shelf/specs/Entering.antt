@@ -1,5 +1,5 @@
 -- What an entry leaves in the places. Assumes nothing.
-use Rattle.std.specs.Prelude.{◌≡◌, ℕ, ◌+◌, ◌-◌, true, false, cond, ◌&&◌, List, length, nat_lt}
+use Rattle.std.specs.Prelude.{◌≡◌, ℕ, ◌+◌, ◌-◌, false, cond, ◌&&◌, List, length, nat_lt}
 use Rattle.orders.specs.declared.request.Life.{Life}
 use Rattle.orders.specs.declared.entry.Entry.{Entry}
 use Rattle.orders.specs.declared.order.Order.{Order}
