@@ -7,7 +7,6 @@ use layers::layer::stack;
 use orders::order::{Fill, Order};
 use orders::request::Request;
 use ranked::book::open;
-use ranking::place::Place;
 use ranking::places::{Lent, Places};
 use ranking::rules::Time;
 use request_file::reader::Reader;
@@ -20,7 +19,7 @@ use venue::venue::Venue;
 #[derive(Drop)]
 pub struct Serving {
     setting: Setting,
-    places: Vec<Place<Order>>,
+    places: Vec<Option<Order>>,
     fills: Vec<Fill>,
     before: Vec<Request>,
     measured: Vec<Request>,
@@ -33,7 +32,7 @@ fn read_requests(heap: Global, file: &[u8]) -> Result<Vec<Request>, AllocError> 
         let Ok(located) = item else {
             continue;
         };
-        let Ok(request) = Request::from_row(&located.record.row()) else {
+        let Ok(request) = Request::try_from(&located.record.row()) else {
             continue;
         };
         requests.push(request)?;
@@ -60,7 +59,7 @@ impl Serving {
         }
         Ok(Serving {
             setting,
-            places: vec![in heap; Place::Vacant; places]?,
+            places: vec![in heap; None; places]?,
             fills: vec![in heap; Fill::BLANK; places]?,
             before,
             measured,

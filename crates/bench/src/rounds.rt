@@ -63,7 +63,7 @@ impl<'a> Work for Reading<'a> {
             let Ok(located) = item else {
                 continue;
             };
-            if Request::from_row(&located.record.row()).is_ok() {
+            if Request::try_from(&located.record.row()).is_ok() {
                 admitted = admitted.saturating_add(1);
             }
         }

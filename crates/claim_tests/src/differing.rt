@@ -3,7 +3,6 @@ use ledger::totals::Ledger;
 use orders::order::Order;
 use orders::row::Row;
 use ranked::book::open;
-use ranking::place::Place;
 use ranking::places::{Lent, Places};
 use ranking::rules::{Size, Time};
 use settling::fault::{Fault, Noted};
@@ -50,8 +49,8 @@ fn settled<L: Places<Record = Order> + Drop, M: Places<Record = Order> + Drop>(
 
 #[test]
 fn two_rules(rt: HostRuntime) -> Result<(), Fail> {
-    let mut places = [Place::Vacant; 8];
-    let mut others = [Place::Vacant; 8];
+    let mut places = [None; 8];
+    let mut others = [None; 8];
     let found = settled(rt.alloc(), Lent::over(&mut places), Lent::over(&mut others))?;
     assert_eq!(rt;
         found,
@@ -63,8 +62,8 @@ fn two_rules(rt: HostRuntime) -> Result<(), Fail> {
 
 #[test]
 fn two_capacities(rt: HostRuntime) -> Result<(), Fail> {
-    let mut places = [Place::Vacant; 8];
-    let mut others = [Place::Vacant; 1];
+    let mut places = [None; 8];
+    let mut others = [None; 1];
     let found = settled(rt.alloc(), Lent::over(&mut places), Lent::over(&mut others))?;
     assert_eq!(rt;
         found.0,

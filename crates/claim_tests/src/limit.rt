@@ -3,7 +3,6 @@ use claims::check::check as check_claim;
 use claims::claim::{Claim, Subject};
 use ledger::totals::Ledger;
 use orders::order::{Fill, Order};
-use ranking::place::Place;
 use ranking::places::{Lent, Places};
 use ranking::rules::Time;
 use shelf::shelf::Shelf;
@@ -95,7 +94,7 @@ pub fn dealt(
     deal_often(
         rt,
         heap,
-        Lent::over(&mut [Place::Vacant; 2]),
+        Lent::over(&mut [None; 2]),
         ledger,
         deal,
         times,

@@ -23,7 +23,7 @@ pub fn entry(member: u8, side: u8, price: u32, quantity: u32) -> Row {
 }
 
 pub fn request(row: &Row) -> Result<Request, Fail> {
-    match Request::from_row(row) {
+    match Request::try_from(row) {
         Ok(request) => Ok(request),
         Err(_) => Err(Fail::new("a row that is no request")),
     }

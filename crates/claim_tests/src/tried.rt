@@ -5,7 +5,6 @@ use orders::order::{Fill, Order};
 use orders::request::Request;
 use orders::row::Row;
 use ranked::book::open;
-use ranking::place::Place;
 use ranking::places::{Lent, Places};
 use ranking::rules::Time;
 use std::alloc::Global;
@@ -123,7 +122,7 @@ fn tried<L: Places<Record = Order> + Drop>(
 
 #[test]
 fn claims_of_a_call(rt: HostRuntime) -> Result<(), Fail> {
-    tried(&rt, rt.alloc(), Lent::over(&mut [Place::Vacant; 8]))
+    tried(&rt, rt.alloc(), Lent::over(&mut [None; 8]))
 }
 
 // Of a book that deals a buy of 100 with sells of 50 and 80.
@@ -176,5 +175,5 @@ fn sold(sell: u32, seller: u8, quantity: u32) -> Fill {
 
 #[test]
 fn claims_of_an_entry(rt: HostRuntime) -> Result<(), Fail> {
-    tried_entry(&rt, rt.alloc(), Lent::over(&mut [Place::Vacant; 8]))
+    tried_entry(&rt, rt.alloc(), Lent::over(&mut [None; 8]))
 }

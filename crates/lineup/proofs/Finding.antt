@@ -4,8 +4,6 @@ use lib.ListN.{length-map}
 use Rattle.std.proofs.lemmas.List.{get_or_at, get_or_past, length_push, map-append}
 use Rattle.std.proofs.lemmas.Bool.{cond-true, cond-false, eq-eqb}
 use Rattle.orders.specs.declared.order.Order.{Order}
-use Rattle.ranking.specs.declared.place.Place.{Place}
-use Rattle.ranking.specs.declared.place.Place.TheVariants.{Vacant, Holding}
 use Rattle.plain.specs.Orders.{find}
 use Rattle.lineup.specs.Layout.{held, Stood}
 
@@ -26,24 +24,24 @@ find_append n [] ys e = refl
 find_append n (x ∷ xs) ys e = none_here (eqb x.number n) x (find n xs) (find n (xs ++ ys)) (find n ys) (find_append n xs ys) e
 
 -- what lies at the place of an order
-pub held_at : (front : List (Place Order)) (earlier : List Order) (x : Order) (later : List Order) (i : ℕ) → length earlier + length front ≡ i →
-    get_or (front ++ held (earlier ++ x ∷ later)) i Vacant ≡ Holding x
+pub held_at : (front : List (Option Order)) (earlier : List Order) (x : Order) (later : List Order) (i : ℕ) → length earlier + length front ≡ i →
+    get_or (front ++ held (earlier ++ x ∷ later)) i None ≡ Some x
 held_at front earlier x later i at =
     let n : length (front ++ held earlier) ≡ i = simp (length-append, length-map) (omega arith) in
-    ap (λ v. get_or (front ++ v) i Vacant) (map-append Holding earlier (x ∷ later)) ∙
-    ap (λ v. get_or v i Vacant) (sym (append_assoc front (held earlier) (Holding x ∷ held later))) ∙
-    get_or_at (front ++ held earlier) (Holding x) (held later) Vacant i n
+    ap (λ v. get_or (front ++ v) i None) (map-append Some earlier (x ∷ later)) ∙
+    ap (λ v. get_or v i None) (sym (append_assoc front (held earlier) (Some x ∷ held later))) ∙
+    get_or_at (front ++ held earlier) (Some x) (held later) None i n
 
-module _ (n start i : ℕ) (front : List (Place Order)) (os : List Order) (places : List (Place Order)) (starts : length front ≡ start) (are : places ≡ front ++ held os) where
+module _ (n start i : ℕ) (front : List (Option Order)) (os : List Order) (places : List (Option Order)) (starts : length front ≡ start) (are : places ≡ front ++ held os) where
   -- the length of the places, and what lies at i, where the orders are split there
   all_of : (earlier rest : List Order) → os ≡ earlier ++ rest → length places ≡ start + (length earlier + length rest)
   all_of earlier rest is = ap length are ∙ ap (λ v. length (front ++ held v)) is ∙ simp (length-append, length-map, starts)
 
-  here : (earlier : List Order) (x : Order) (later : List Order) → os ≡ earlier ++ x ∷ later → length earlier + start ≡ i → get_or places i Vacant ≡ Holding x
-  here earlier x later is at = ap (λ v. get_or v i Vacant) are ∙ ap (λ v. get_or (front ++ held v) i Vacant) is ∙ held_at front earlier x later i (omega arith)
+  here : (earlier : List Order) (x : Order) (later : List Order) → os ≡ earlier ++ x ∷ later → length earlier + start ≡ i → get_or places i None ≡ Some x
+  here earlier x later is at = ap (λ v. get_or v i None) are ∙ ap (λ v. get_or (front ++ held v) i None) is ∙ held_at front earlier x later i (omega arith)
 
   more : (earlier rest : List Order) → os ≡ earlier ++ rest → length earlier + start ≡ i → find n earlier ≡ None → i < length places →
-      ((x : Order) → get_or places i Vacant ≡ Holding x → eqb x.number n ≡ false) → Finding n start (i + 1) os
+      ((x : Order) → get_or places i None ≡ Some x → eqb x.number n ≡ false) → Finding n start (i + 1) os
   more earlier [] is at none l not = let m = all_of earlier [] is in absurd (omega arith)
   more earlier (x ∷ later) is at none l not = record {
     earlier = earlier ++ x ∷ [];
@@ -53,14 +51,14 @@ module _ (n start i : ℕ) (front : List (Place Order)) (os : List Order) (place
     not_earlier = find_append n earlier (x ∷ []) none ∙ cond-false (eqb x.number n) (Some x) None (not x (here earlier x later is at));
   }
 
-  pub finding_more : Finding n start i os → i < length places → ((x : Order) → get_or places i Vacant ≡ Holding x → eqb x.number n ≡ false) → Finding n start (i + 1) os
+  pub finding_more : Finding n start i os → i < length places → ((x : Order) → get_or places i None ≡ Some x → eqb x.number n ≡ false) → Finding n start (i + 1) os
   finding_more f = more f.earlier f.rest f.are f.lies f.not_earlier
 
   one : (o : Order) (earlier rest : List Order) → os ≡ earlier ++ rest → length earlier + start ≡ i → find n earlier ≡ None →
-      get_or places i Vacant ≡ Holding o → o.number ≡ n → Stood n start os i o
+      get_or places i None ≡ Some o → o.number ≡ n → Stood n start os i o
   one o earlier [] is at none there same =
       let m = all_of earlier [] is in
-      let p = get_or_past places i Vacant (omega arith) in
+      let p = get_or_past places i None (omega arith) in
       let z : ◌≡◌ {A = ℕ} 0 1 = cc in
       absurd (omega arith)
   one o earlier (x ∷ later) is at none there same =
@@ -68,7 +66,7 @@ module _ (n start i : ℕ) (front : List (Place Order)) (os : List Order) (place
       let x_is : x ≡ o = cc in
       record { earlier = earlier; later = later; are = is ∙ ap (λ z. earlier ++ z ∷ later) x_is; lies = at; numbered = same; not_earlier = none }
 
-  pub finding_one : (o : Order) → Finding n start i os → get_or places i Vacant ≡ Holding o → o.number ≡ n → Stood n start os i o
+  pub finding_one : (o : Order) → Finding n start i os → get_or places i None ≡ Some o → o.number ≡ n → Stood n start os i o
   finding_one o f = one o f.earlier f.rest f.are f.lies f.not_earlier
 
   all : (earlier rest : List Order) → os ≡ earlier ++ rest → length earlier + start ≡ i → find n earlier ≡ None → length places ≤ i → find n os ≡ None

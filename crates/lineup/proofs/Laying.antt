@@ -1,13 +1,11 @@
 -- How the orders of a plain book lie, as either side sees them. Assumes nothing.
-use Rattle.std.proofs.Common.{◌≡◌, ℕ, zero, suc, ◌+◌, ◌-◌, List, [], ◌∷◌, ◌++◌, reverse, length, replicate, sym, refl, ap, ◌∙◌, append_assoc, add-one, arith, length-append}
+use Rattle.std.proofs.Common.{◌≡◌, ℕ, zero, suc, ◌+◌, ◌-◌, List, [], ◌∷◌, ◌++◌, reverse, length, replicate, sym, refl, ap, ◌∙◌, append_assoc, add-one, arith, length-append, Option, None}
 use mathlib.Core.List.{reverse-cons}
 use lib.ListN.{length-map, length-reverse, length-replicate}
 use Rattle.std.proofs.lemmas.List.{reverse-append, reverse-reverse, replicate_more}
 use Rattle.orders.specs.declared.request.Side.{Side}
 use Rattle.orders.specs.declared.request.Side.TheVariants.{Buy, Sell}
 use Rattle.orders.specs.declared.order.Order.{Order}
-use Rattle.ranking.specs.declared.place.Place.{Place}
-use Rattle.ranking.specs.declared.place.Place.TheVariants.{Vacant}
 use Rattle.plain.specs.Orders.{other}
 use Rattle.plain.specs.Book.{Book, side}
 use Rattle.lineup.specs.declared.state.State.{State}
@@ -29,13 +27,13 @@ mirrored xs a b r same e =
     ap (λ v. (reverse b ++ v) ++ a) same ∙
     append_assoc (reverse b) r a
 
-other_sees : (t : Side) (places : List (Place Order)) (gap : ℕ) (own others : List Order) → LiesAt t places gap own others → LiesAt (other t) places gap others own
-other_sees Sell places gap own others e = mirrored places (held others) (held own) (replicate gap Vacant) (reverse_replicate gap Vacant) e
+other_sees : (t : Side) (places : List (Option Order)) (gap : ℕ) (own others : List Order) → LiesAt t places gap own others → LiesAt (other t) places gap others own
+other_sees Sell places gap own others e = mirrored places (held others) (held own) (replicate gap None) (reverse_replicate gap None) e
 other_sees Buy places gap own others e =
-    sym (reverse-reverse places) ∙ mirrored (reverse places) (held others) (held own) (replicate gap Vacant) (reverse_replicate gap Vacant) e
+    sym (reverse-reverse places) ∙ mirrored (reverse places) (held others) (held own) (replicate gap None) (reverse_replicate gap None) e
 
 -- what one side sees says what both see
-pub both_see : (t : Side) (places : List (Place Order)) (gap : ℕ) (b : Book) → LiesAt t places gap (side t b) (side (other t) b) →
+pub both_see : (t : Side) (places : List (Option Order)) (gap : ℕ) (b : Book) → LiesAt t places gap (side t b) (side (other t) b) →
     (u : Side) → LiesAt u places gap (side u b) (side (other u) b)
 both_see Buy places gap b e Buy = e
 both_see Buy places gap b e Sell = other_sees Buy places gap b.buys b.sells e
@@ -49,25 +47,25 @@ on_both P Sell own others Buy = others
 on_both P Sell own others Sell = own
 
 -- what lies before a side's own orders
-abbrev pub before : ℕ → List Order → List (Place Order)
-before gap others = reverse (held others) ++ replicate gap Vacant
+abbrev pub before : ℕ → List Order → List (Option Order)
+before gap others = reverse (held others) ++ replicate gap None
 
 pub before_length : (gap : ℕ) (others : List Order) → length (before gap others) ≡ length others + gap
 before_length gap others = simp (length-append, length-reverse, length-map, length-replicate)
 
-pub before_more : (gap : ℕ) (others : List Order) (rest : List (Place Order)) → before (gap + 1) others ++ rest ≡ before gap others ++ Vacant ∷ rest
+pub before_more : (gap : ℕ) (others : List Order) (rest : List (Option Order)) → before (gap + 1) others ++ rest ≡ before gap others ++ None ∷ rest
 before_more gap others rest =
-    ap (λ v. (reverse (held others) ++ v) ++ rest) (sym (replicate_more gap Vacant)) ∙
-    ap (λ v. v ++ rest) (sym (append_assoc (reverse (held others)) (replicate gap Vacant) (Vacant ∷ []))) ∙
-    append_assoc (before gap others) (Vacant ∷ []) rest
+    ap (λ v. (reverse (held others) ++ v) ++ rest) (sym (replicate_more gap None)) ∙
+    ap (λ v. v ++ rest) (sym (append_assoc (reverse (held others)) (replicate gap None) (None ∷ []))) ∙
+    append_assoc (before gap others) (None ∷ []) rest
 
 -- what a side sees, from what lies before its own orders
-pub lies_after : (t : Side) (places : List (Place Order)) (gap : ℕ) (own others : List Order) → seen t places ≡ before gap others ++ held own → LiesAt t places gap own others
-lies_after t places gap own others e = e ∙ append_assoc (reverse (held others)) (replicate gap Vacant) (held own)
+pub lies_after : (t : Side) (places : List (Option Order)) (gap : ℕ) (own others : List Order) → seen t places ≡ before gap others ++ held own → LiesAt t places gap own others
+lies_after t places gap own others e = e ∙ append_assoc (reverse (held others)) (replicate gap None) (held own)
 
-module _ (places : List (Place Order)) (s : State) (b : Book) (l : Lies places s b) where
+module _ (places : List (Option Order)) (s : State) (b : Book) (l : Lies places s b) where
   pub own_after : (t : Side) → seen t places ≡ before l.gap (side (other t) b) ++ held (side t b)
-  own_after t = l.laid t ∙ sym (append_assoc (reverse (held (side (other t) b))) (replicate l.gap Vacant) (held (side t b)))
+  own_after t = l.laid t ∙ sym (append_assoc (reverse (held (side (other t) b))) (replicate l.gap None) (held (side t b)))
 
   -- the gap is what the counts leave of the capacity
   pub gap_left : (t : Side) → s.capacity ≡ (count (other t) s + l.gap) + count t s
@@ -87,7 +85,7 @@ module _ (places : List (Place Order)) (s : State) (b : Book) (l : Lies places s
       omega arith
 
 -- a book whose places, count and orders changed on one side
-pub changed : (t : Side) (places places' : List (Place Order)) (s s' : State) (b b' : Book) (l : Lies places s b) (gap : ℕ) →
+pub changed : (t : Side) (places places' : List (Option Order)) (s s' : State) (b b' : Book) (l : Lies places s b) (gap : ℕ) →
     LiesAt t places' gap (side t b') (side (other t) b') → side (other t) b' ≡ side (other t) b → gap + length (side t b') ≡ l.gap + length (side t b) →
     Recounted t (length (side t b')) s s' → b'.phase ≡ b.phase → b'.next ≡ b.next → Lies places' s' b'
 changed t places places' s s' b b' l gap lies same room r phase next = record {
@@ -109,7 +107,7 @@ changed t places places' s s' b b' l gap lies same room r phase next = record {
 }
 
 -- a book with other words about it
-pub relabelled : (places : List (Place Order)) (s s' : State) (b b' : Book) → Lies places s b → s'.buys ≡ s.buys → s'.sells ≡ s.sells → s'.capacity ≡ s.capacity →
+pub relabelled : (places : List (Option Order)) (s s' : State) (b b' : Book) → Lies places s b → s'.buys ≡ s.buys → s'.sells ≡ s.sells → s'.capacity ≡ s.capacity →
     b'.buys ≡ b.buys → b'.sells ≡ b.sells → s'.phase ≡ b'.phase → s'.next ≡ b'.next → Lies places s' b'
 relabelled places s s' b b' l buys sells capacity bought sold phase next = record {
   gap = l.gap;

@@ -1,12 +1,10 @@
 -- A book after an order is put in its place, or taken out. Assumes nothing.
-use Rattle.std.proofs.Common.{◌≡◌, ℕ, suc, ◌+◌, ◌-◌, ◌<◌, List, ◌∷◌, ◌++◌, length, set, sym, refl, ap, ◌∙◌, subst, arith, length-append}
+use Rattle.std.proofs.Common.{◌≡◌, ℕ, suc, ◌+◌, ◌-◌, ◌<◌, List, ◌∷◌, ◌++◌, length, set, sym, refl, ap, ◌∙◌, subst, arith, length-append, Option, None, Some}
 use lib.ListN.{length-map}
 use Rattle.std.proofs.lemmas.List.{map-append, set_at}
 use Rattle.orders.specs.declared.request.Side.{Side}
 use Rattle.orders.specs.declared.request.Side.TheVariants.{Buy, Sell}
 use Rattle.orders.specs.declared.order.Order.{Order}
-use Rattle.ranking.specs.declared.place.Place.{Place}
-use Rattle.ranking.specs.declared.place.Place.TheVariants.{Vacant, Holding}
 use Rattle.plain.specs.Rule.{Rule}
 use Rattle.plain.specs.Orders.{other, placed}
 use Rattle.plain.specs.Book.{Book, side, put}
@@ -36,9 +34,9 @@ pub both_counts : (t : Side) (s : State) → s.buys + s.sells ≡ count (other t
 both_counts Buy s = omega arith
 both_counts Sell s = omega arith
 
-module _ (t : Side) (places places' : List (Place Order)) (s s' : State) (b : Book) (start : ℕ) (starts : start ≡ s.capacity - count t s) (l : Lies places s b) where
+module _ (t : Side) (places places' : List (Option Order)) (s s' : State) (b : Book) (start : ℕ) (starts : start ≡ s.capacity - count t s) (l : Lies places s b) where
   pub rested : (rule : Rule) (o : Order) → s.buys + s.sells < s.capacity → Recounted t (count t s + 1) s s' →
-      ((front : List (Place Order)) (y : Place Order) (os : List Order) → length front ≡ start - 1 → s.capacity ≡ length places →
+      ((front : List (Option Order)) (y : Option Order) (os : List Order) → length front ≡ start - 1 → s.capacity ≡ length places →
       seen t places ≡ front ++ y ∷ held os → seen t places' ≡ front ++ held (placed rule o os)) →
       Lies places' s' (put rule t o b)
   rested rule o room r put_in =
@@ -51,9 +49,9 @@ module _ (t : Side) (places places' : List (Place Order)) (s s' : State) (b : Bo
       let long = before_length gap others in
       let d = l.counts (other t) in
       let more = placed_length rule o own in
-      let is : seen t places ≡ before gap others ++ Vacant ∷ held own =
+      let is : seen t places ≡ before gap others ++ None ∷ held own =
       own_after places s b l t ∙ ap (λ m. before m others ++ held own) one ∙ before_more gap others (held own) in
-      let now : seen t places' ≡ before gap others ++ held (placed rule o own) = put_in (before gap others) Vacant own (omega arith) l.size is in
+      let now : seen t places' ≡ before gap others ++ held (placed rule o own) = put_in (before gap others) None own (omega arith) l.size is in
       changed t places places' s s' b (put rule t o b) l gap
       (rw (put_own rule t o b, put_other rule t o b) (lies_after t places' gap (placed rule o own) others now))
       (put_other rule t o b)
@@ -64,18 +62,18 @@ module _ (t : Side) (places places' : List (Place Order)) (s s' : State) (b : Bo
 
   pub taken_out : (c : Book) (earlier : List Order) (o : Order) (later : List Order) (i : ℕ) → Recounted t (count t s - 1) s s' →
       side t b ≡ earlier ++ o ∷ later → length earlier + start ≡ i →
-      ((front ps : List (Place Order)) (y : Place Order) (qs : List (Place Order)) → length front ≡ start → length ps + start ≡ i →
-      seen t places ≡ front ++ (ps ++ y ∷ qs) → seen t places' ≡ front ++ Vacant ∷ (ps ++ qs)) →
+      ((front ps : List (Option Order)) (y : Option Order) (qs : List (Option Order)) → length front ≡ start → length ps + start ≡ i →
+      seen t places ≡ front ++ (ps ++ y ∷ qs) → seen t places' ≡ front ++ None ∷ (ps ++ qs)) →
       side t c ≡ earlier ++ later → side (other t) c ≡ side (other t) b → c.phase ≡ b.phase → c.next ≡ b.next → Lies places' s' c
   taken_out c earlier o later i r is at take_out own others phase next =
       let front = before l.gap (side (other t) b) in
       let first = starts_at places s b l t in
       let begins : length front ≡ start = omega arith in
       let reaches : length (held earlier) + start ≡ i = simp length-map at in
-      let was = own_after places s b l t ∙ ap (λ os. front ++ held os) is ∙ ap (λ v. front ++ v) (map-append Holding earlier (o ∷ later)) in
-      let now = take_out front (held earlier) (Holding o) (held later) begins reaches was in
+      let was = own_after places s b l t ∙ ap (λ os. front ++ held os) is ∙ ap (λ v. front ++ v) (map-append Some earlier (o ∷ later)) in
+      let now = take_out front (held earlier) (Some o) (held later) begins reaches was in
       let lies : seen t places' ≡ before (l.gap + 1) (side (other t) b) ++ held (earlier ++ later) =
-      now ∙ ap (λ v. front ++ Vacant ∷ v) (sym (map-append Holding earlier later)) ∙ sym (before_more l.gap (side (other t) b) (held (earlier ++ later))) in
+      now ∙ ap (λ v. front ++ None ∷ v) (sym (map-append Some earlier later)) ∙ sym (before_more l.gap (side (other t) b) (held (earlier ++ later))) in
       let m : length (side t b) ≡ length earlier + suc (length later) = ap length is ∙ length-append earlier (o ∷ later) in
       let k : length (side t c) ≡ length earlier + length later = ap length own ∙ length-append earlier later in
       let e = l.counts t in
@@ -88,13 +86,13 @@ module _ (t : Side) (places places' : List (Place Order)) (s s' : State) (b : Bo
       next
 
   -- the best order of a side written anew
-  pub rewritten : (c : Book) (o o' : Order) (later : List Order) → seen t places' ≡ set (seen t places) start (Holding o') →
+  pub rewritten : (c : Book) (o o' : Order) (later : List Order) → seen t places' ≡ set (seen t places) start (Some o') →
       side t b ≡ o ∷ later → side t c ≡ o' ∷ later → side (other t) c ≡ side (other t) b → c.phase ≡ b.phase → c.next ≡ b.next → s' ≡ s → Lies places' s' c
   rewritten c o o' later wrote is own others phase next same =
       let front = before l.gap (side (other t) b) in
       let first = starts_at places s b l t in
       let lies : seen t places' ≡ front ++ held (o' ∷ later) =
-      wrote ∙ ap (λ v. set v start (Holding o')) (own_after places s b l t ∙ ap (λ os. front ++ held os) is) ∙ set_at front (Holding o) (held later) (Holding o') start (omega arith) in
+      wrote ∙ ap (λ v. set v start (Some o')) (own_after places s b l t ∙ ap (λ os. front ++ held os) is) ∙ set_at front (Some o) (held later) (Some o') start (omega arith) in
       let k = ap length is in
       let m = ap length own in
       let e = l.counts t in

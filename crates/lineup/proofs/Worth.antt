@@ -1,9 +1,8 @@
 -- The tonnes of a side, by its places. Assumes nothing.
-use Rattle.std.proofs.Common.{◌≡◌, ℕ, ◌+◌, ◌-◌, cond, List, [], ◌∷◌, drop, sym, refl, ap, ◌∙◌, arith}
+use Rattle.std.proofs.Common.{◌≡◌, ℕ, ◌+◌, ◌-◌, cond, List, [], ◌∷◌, drop, sym, refl, ap, ◌∙◌, arith, Option}
 use Rattle.std.proofs.lemmas.List.{drop_at}
 use Rattle.orders.specs.declared.request.Side.{Side}
 use Rattle.orders.specs.declared.order.Order.{Order}
-use Rattle.ranking.specs.declared.place.Place.{Place}
 use Rattle.plain.specs.Orders.{keep, total, within, other}
 use Rattle.plain.specs.Book.{Book, side}
 use Rattle.plain.proofs.Kept.{total_keep}
@@ -16,7 +15,7 @@ worth_held : (t : Side) (limit : ℕ) (os : List Order) → worth t limit (held 
 worth_held t limit [] = refl
 worth_held t limit (o ∷ os) = ap (λ n. cond (within t limit o) o.remaining 0 + n) (worth_held t limit os) ∙ sym (total_keep (within t limit) o os)
 
-module _ (places : List (Place Order)) (s : State) (b : Book) (l : Lies places s b) where
+module _ (places : List (Option Order)) (s : State) (b : Book) (l : Lies places s b) where
   -- what lies from a side's first place on
   pub own_from : (t : Side) (start : ℕ) → start ≡ s.capacity - count t s → drop start (seen t places) ≡ held (side t b)
   own_from t start is =

@@ -3,8 +3,6 @@ use Rattle.std.specs.Prelude.{◌≡◌, ℕ, ◌-◌, ◌≤◌, List, ◌++◌
 use Rattle.orders.specs.declared.request.Side.{Side}
 use Rattle.orders.specs.declared.request.Side.TheVariants.{Buy, Sell}
 use Rattle.orders.specs.declared.order.Order.{Order}
-use Rattle.ranking.specs.declared.place.Place.{Place}
-use Rattle.ranking.specs.declared.place.Place.TheVariants.{Vacant, Holding}
 use Rattle.plain.specs.Orders.{other, find}
 use Rattle.plain.specs.Book.{Book, side, resting}
 use Rattle.lineup.specs.declared.state.State.{State}
@@ -12,8 +10,8 @@ use Rattle.lineup.specs.declared.state.Spot.{Spot}
 use Rattle.lineup.specs.Layout.{seen, held, Stood}
 
 -- from the front, as a side sees it: the other side's orders, the worst first, then a gap, then its own, the best first
-abbrev pub LiesAt : Side → List (Place Order) → ℕ → List Order → List Order → Type 0
-LiesAt t places gap own others = seen t places ≡ reverse (held others) ++ (replicate gap Vacant ++ held own)
+abbrev pub LiesAt : Side → List (Option Order) → ℕ → List Order → List Order → Type 0
+LiesAt t places gap own others = seen t places ≡ reverse (held others) ++ (replicate gap None ++ held own)
 
 abbrev pub count : Side → State → ℕ
 count Buy s = s.buys
@@ -28,9 +26,9 @@ pub record Recounted (t : Side) (n : ℕ) (s r : State) : Type 0 where
   pub next : r.next ≡ s.next
 
 -- the order in a place, if any
-abbrev pub occupant : Place Order → Option Order
-occupant Vacant = None
-occupant (Holding o) = Some o
+abbrev pub occupant : Option Order → Option Order
+occupant None = None
+occupant (Some o) = Some o
 
 -- where an order of a number rests
 pub record Rests (n : ℕ) (s : State) (b : Book) (p : Spot) : Type 0 where
@@ -43,7 +41,7 @@ FoundIn n s b None = find n (resting b) ≡ None
 FoundIn n s b (Some p) = Rests n s b p
 
 -- the places and the state are those of a plain book
-pub record Lies (places : List (Place Order)) (s : State) (b : Book) : Type 0 where
+pub record Lies (places : List (Option Order)) (s : State) (b : Book) : Type 0 where
   pub gap : ℕ
   pub laid : (t : Side) → LiesAt t places gap (side t b) (side (other t) b)
   pub counts : (t : Side) → count t s ≡ length (side t b)

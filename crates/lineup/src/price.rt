@@ -1,7 +1,6 @@
-ghost use Rattle.std.specs.Prelude.{◌≡◌, ◌-◌, ◌^◌, ◌<◌, ◌≤◌, min, List, [], ◌∷◌, ◌++◌, reverse, length, OnSome};
+ghost use Rattle.std.specs.Prelude.{◌≡◌, ◌-◌, ◌^◌, ◌<◌, ◌≤◌, min, List, [], ◌∷◌, ◌++◌, reverse, length, OnSome, Some};
 ghost use Rattle.std.specs.List.{AllByRecursion};
 ghost use Rattle.orders.specs.declared.order.Order.{Order};
-ghost use Rattle.ranking.specs.declared.place.Place.TheVariants.{Holding};
 ghost use Rattle.plain.specs.Rule.{Rule, Lawful};
 ghost use Rattle.plain.specs.Price.{demand, call_price, call_volume};
 ghost use Rattle.plain.specs.Book.{Book};
@@ -15,7 +14,6 @@ use crate::state::{Quote, State, Sweep};
 use crate::sums::sum_within;
 use orders::order::Order;
 use orders::request::Side;
-use ranking::place::Place;
 use ranking::places::Places;
 
 // The better of two prices, of which the second is the higher.
@@ -86,8 +84,8 @@ fn next_buy<L: Places<Record = Order>>(
         return None;
     }
     match get(list, Side::Sell, state.buys.saturating_sub(left)) {
-        Place::Holding(buy) => { if buy.price < limit { Some(buy) } else { None } }
-        Place::Vacant => None,
+        Some(buy) => { if buy.price < limit { Some(buy) } else { None } }
+        None => None,
     }
 }
 
@@ -111,13 +109,13 @@ fn pass_place<L: Places<Record = Order>>(
     list: &L,
     state: &State,
     sweep: Sweep,
-    place: Place<Order>,
+    place: Option<Order>,
 ) -> Sweep
-    ensures { (b : Book) (sold : List Order) (y : Order) (later : List Order) → Lies (L.Places.contents list.now) state.now b → place ≡ Holding y → SweptBy b sold (y ∷ later) sweep → SweptBy b (sold ++ y ∷ []) later result }
+    ensures { (b : Book) (sold : List Order) (y : Order) (later : List Order) → Lies (L.Places.contents list.now) state.now b → place ≡ Some y → SweptBy b sold (y ∷ later) sweep → SweptBy b (sold ++ y ∷ []) later result }
 {
     match place {
-        Place::Holding(sell) => pass_sell(pass_buys(list, state, sweep, sell.price), &sell),
-        Place::Vacant => sweep,
+        Some(sell) => pass_sell(pass_buys(list, state, sweep, sell.price), &sell),
+        None => sweep,
     }
 }
 

@@ -1,15 +1,13 @@
-ghost use Rattle.std.specs.Prelude.{◌≡◌, length, slice_index_or, slice_set};
-ghost use Rattle.ranking.specs.declared.place.Place.TheVariants.{Vacant};
+ghost use Rattle.std.specs.Prelude.{◌≡◌, length, slice_index_or, slice_set, None};
 ghost use Rattle.lineup.specs.Layout.{seen};
 
 use orders::order::Order;
 use orders::request::Side;
-use ranking::place::Place;
 use ranking::places::{Places, put as place_in};
 
 // Reads and writes of a list as a side sees it: the sells from its front, the buys from its end.
-pub fn get<L: Places<Record = Order>>(list: &L, side: Side, i: usize) -> Place<Order>
-    ensures { result ≡ slice_index_or (seen side (L.Places.contents list.now)) i Vacant }
+pub fn get<L: Places<Record = Order>>(list: &L, side: Side, i: usize) -> Option<Order>
+    ensures { result ≡ slice_index_or (seen side (L.Places.contents list.now)) i None }
 {
     match side {
         Side::Sell => list.get(i),
@@ -18,13 +16,13 @@ pub fn get<L: Places<Record = Order>>(list: &L, side: Side, i: usize) -> Place<O
             if i < len {
                 list.get(len - 1 - i)
             } else {
-                Place::Vacant
+                None
             }
         }
     }
 }
 
-pub fn put<L: Places<Record = Order>>(list: &mut L, side: Side, i: usize, place: Place<Order>)
+pub fn put<L: Places<Record = Order>>(list: &mut L, side: Side, i: usize, place: Option<Order>)
     ensures size { length (L.Places.contents list.new) ≡ length (L.Places.contents list.old) }
     ensures wrote { seen side (L.Places.contents list.new) ≡ slice_set (seen side (L.Places.contents list.old)) i place }
 {

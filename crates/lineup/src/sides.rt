@@ -11,7 +11,6 @@ use crate::seen::{get, put};
 use crate::state::{Spot, State};
 use orders::order::Order;
 use orders::request::Side;
-use ranking::place::Place;
 use ranking::places::Places;
 use ranking::rank::{Priority, Ranking};
 
@@ -43,12 +42,12 @@ pub fn recount(mut state: State, side: Side, n: usize) -> State
     state
 }
 
-fn occupied(place: Place<Order>) -> Option<Order>
+fn occupied(place: Option<Order>) -> Option<Order>
     ensures { result ≡ occupant place }
 {
     match place {
-        Place::Holding(order) => Some(order),
-        Place::Vacant => None,
+        Some(order) => Some(order),
+        None => None,
     }
 }
 
@@ -137,5 +136,5 @@ pub fn reduce<L: Places<Record = Order>>(
     ensures { (b c : Book) (later : List Order) → Lies (L.Places.contents list.old) state.now b → side_of side b ≡ order ∷ later → side_of side c ≡ with_remaining order remaining ∷ later → side_of (other side) c ≡ side_of (other side) b → c.phase ≡ b.phase → c.next ≡ b.next → Lies (L.Places.contents list.new) state.now c }
 {
     order.remaining = remaining;
-    put(list, side, start(state, side), Place::Holding(order));
+    put(list, side, start(state, side), Some(order));
 }

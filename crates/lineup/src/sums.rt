@@ -4,14 +4,13 @@ ghost use Rattle.lineup.specs.Layout.{seen, worth, worth_of};
 use crate::seen::get;
 use orders::order::Order;
 use orders::request::Side;
-use ranking::place::Place;
 use ranking::places::Places;
 
 // The tonnes in a place that lie within a limit.
-fn tonnes_within(place: Place<Order>, side: Side, limit: u32) -> u32
+fn tonnes_within(place: Option<Order>, side: Side, limit: u32) -> u32
     ensures { result ≡ worth_of side limit place }
 {
-    let Place::Holding(order) = place else {
+    let Some(order) = place else {
         return 0
     };
     let within = match side {

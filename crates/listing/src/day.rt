@@ -6,7 +6,6 @@ use crate::line::Line;
 use crate::lines::listing;
 use crate::records::{read_records, steps_for};
 use piles::day::{run_ranked, run_shelf};
-use ranking::place::Place;
 use ranking::places::Lent;
 use ranking::rank::Priority;
 use std::alloc::{AllocError, Global};
@@ -26,7 +25,7 @@ pub enum Book {
 fn deal<R: Priority + Drop>(book: Book, rule: R, steps: &mut [Step])
     ensures { DayRun (day_setup (R.Ranking.ahead rule) 8) steps.old steps.new }
 {
-    let mut places = [Place::Vacant; PLACES];
+    let mut places = [None; PLACES];
     let list = Lent::over(&mut places);
     match book {
         Book::Shelf => run_shelf(list, rule, steps).unwrap(),

@@ -15,7 +15,7 @@ fn request_of(item: &Result<Located, Fault>) -> Result<Request, Cause>
     ensures { ItemOf (seen (Some item.now)) result }
 {
     match item {
-        Ok(located) => Request::from_row(&located.record.row()),
+        Ok(located) => Request::try_from(&located.record.row()),
         Err(fault) => Err(fault.cause),
     }
 }

@@ -1,5 +1,5 @@
 -- What a search of the places finds opposite is the first of the other side. Assumes nothing.
-use Rattle.std.proofs.Common.{◌≡◌, ℕ, true, false, List, [], ◌∷◌, Some, None, sym, refl, ap, ◌∙◌, subst, inl, inr, arith}
+use Rattle.std.proofs.Common.{◌≡◌, ℕ, true, false, List, [], ◌∷◌, Some, None, sym, refl, ap, ◌∙◌, subst, inl, inr, arith, Option}
 use mathlib.Core.List.{Memᴰ}
 use Rattle.std.proofs.lemmas.Bool.{both_ways, and_parts, and_from, cases_Bool}
 use Rattle.std.proofs.lemmas.Bool.Decides.{nat_tests}
@@ -12,7 +12,6 @@ use Rattle.plain.specs.Book.{Book, side}
 use Rattle.plain.specs.Sound.{AllLive, Sound}
 use Rattle.plain.proofs.Members.{live_one, ahead_of_one}
 use Rattle.plain.proofs.Crossed.{ahead_is_within}
-use Rattle.ranking.specs.declared.place.Place.{Place}
 use Rattle.matching.specs.Weights.{SameOrders}
 use Rattle.matching.specs.Scans.{same_side, opposite}
 use Rattle.matching.specs.Deals.{FirstOpposite}
@@ -34,7 +33,7 @@ pub record Heads (rule : Rule) (s : Side) (limit : ℕ) (c : Book) (x : Order) :
   pub are : side (other s) c ≡ x ∷ rest
   pub passes : within s limit x ≡ true
 
-module _ {rule : Rule} (law : Lawful rule) (ps : List (Place Order)) (c : Book) (sound : Sound rule c) (orders : SameOrders ps c) (s : Side) (limit : ℕ) where
+module _ {rule : Rule} (law : Lawful rule) (ps : List (Option Order)) (c : Book) (sound : Sound rule c) (orders : SameOrders ps c) (s : Side) (limit : ℕ) where
   is_opposite : (y : Order) → Memᴰ y (side (other s) c) → within s limit y ≡ true → opposite s limit y ≡ true
   is_opposite y m in-limit =
       and_from _ _ (ap (same_side (other s)) (live_one (other s) c.next (side (other s) c) (side_live c sound (other s)) m).of_side ∙ side_itself (other s)) in-limit

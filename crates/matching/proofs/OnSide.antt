@@ -1,5 +1,5 @@
 -- The orders of one side, by what is held. Assumes nothing.
-use Rattle.std.proofs.Common.{◌≡◌, ℕ, suc, ◌<◌, ◌≤◌, true, false, cond, List, [], ◌∷◌, length, sym, refl, ap, ◌∙◌, subst, arith}
+use Rattle.std.proofs.Common.{◌≡◌, ℕ, suc, ◌<◌, ◌≤◌, true, false, cond, List, [], ◌∷◌, length, sym, refl, ap, ◌∙◌, subst, arith, Option, None, Some}
 use mathlib.Core.List.{Memᴰ}
 use Rattle.std.proofs.lemmas.Bool.{cond-true, cond-false}
 use Rattle.orders.specs.declared.request.Side.{Side}
@@ -10,8 +10,6 @@ use Rattle.plain.specs.Orders.{other}
 use Rattle.plain.specs.Book.{Book, side, resting}
 use Rattle.plain.specs.Sound.{AllLive, Sound}
 use Rattle.plain.proofs.Members.{live_one}
-use Rattle.ranking.specs.declared.place.Place.{Place}
-use Rattle.ranking.specs.declared.place.Place.TheVariants.{Vacant, Holding}
 use Rattle.ranking.specs.Search.{Holds}
 use Rattle.matching.specs.Weights.{Weight, weight, held_weight, SameOrders}
 use Rattle.matching.specs.Scans.{same_side, one_if, only_side}
@@ -51,25 +49,25 @@ weighs_one o [] m = elim m [ ]
 weighs_one o (x ∷ xs) (Memᴰ.head e) = omega (arith, cond-true {A = ℕ} (alike o x) 1 0 (ap (alike o) (sym e) ∙ alike_itself o))
 weighs_one o (x ∷ xs) (Memᴰ.tail m) = omega (arith, weighs_one o xs m)
 
-abbrev pub HeldAt : List (Place Order) → Order → Type 0
+abbrev pub HeldAt : List (Option Order) → Order → Type 0
 HeldAt ps o = (i : ℕ) × (i < length ps) × Holds ps i o
 
 nothing_there : (o y : Order) → alike o y ≡ false → only_side o.side (one_if (alike o)) y ≡ 0
 nothing_there o y e = rw e (elim (same_side o.side y.side) as (λ v. cond {A = ℕ} v 0 0 ≡ 0) [ true ↦ refl | false ↦ refl ])
 
-held_later : (o : Order) (p : Place Order) (ps : List (Place Order)) → HeldAt ps o → HeldAt (p ∷ ps) o
+held_later : (o : Order) (p : Option Order) (ps : List (Option Order)) → HeldAt ps o → HeldAt (p ∷ ps) o
 held_later o p ps found = (suc found.0, omega (arith, found.1), found.2)
 
-held_one : (o : Order) (ps : List (Place Order)) → 1 ≤ held_weight (only_side o.side (one_if (alike o))) ps → HeldAt ps o
+held_one : (o : Order) (ps : List (Option Order)) → 1 ≤ held_weight (only_side o.side (one_if (alike o))) ps → HeldAt ps o
 held_one o [] h = absurd (omega arith)
-held_one o (Vacant ∷ ps) h = held_later o Vacant ps (held_one o ps (omega arith))
-held_one o (Holding y ∷ ps) h =
-    elim (alike o y) as (λ v. alike o y ≡ v → HeldAt (Holding y ∷ ps) o) [
-      | true ↦ λ e. (0, omega arith, ap (λ z. Holding z) (sym (alike_equal o y e)))
-      | false ↦ λ e. held_later o (Holding y) ps (held_one o ps (omega (arith, nothing_there o y e)))
+held_one o (None ∷ ps) h = held_later o None ps (held_one o ps (omega arith))
+held_one o (Some y ∷ ps) h =
+    elim (alike o y) as (λ v. alike o y ≡ v → HeldAt (Some y ∷ ps) o) [
+      | true ↦ λ e. (0, omega arith, ap (λ z. Some z) (sym (alike_equal o y e)))
+      | false ↦ λ e. held_later o (Some y) ps (held_one o ps (omega (arith, nothing_there o y e)))
     ] refl
 
-module _ {rule : Rule} (ps : List (Place Order)) (b : Book) (sound : Sound rule b) (orders : SameOrders ps b) where
+module _ {rule : Rule} (ps : List (Option Order)) (b : Book) (sound : Sound rule b) (orders : SameOrders ps b) where
   pub side_held : (t : Side) (w : Weight) → held_weight (only_side t w) ps ≡ weight w (side t b)
   side_held t w = orders (only_side t w) ∙ side_weight b sound t w
 

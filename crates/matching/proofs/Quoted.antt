@@ -15,8 +15,6 @@ use Rattle.plain.specs.Sound.{AllLive, Sound}
 use Rattle.plain.proofs.Members.{live_one}
 use Rattle.plain.proofs.Price.{InRange}
 use Rattle.plain.proofs.AnySteps.{first_of_any}
-use Rattle.ranking.specs.declared.place.Place.{Place}
-use Rattle.ranking.specs.declared.place.Place.TheVariants.{Vacant, Holding}
 use Rattle.ranking.specs.Search.{Holds}
 use Rattle.matching.specs.Weights.{SameOrders}
 use Rattle.matching.specs.declared.quote.Quote.{Quote}
@@ -30,7 +28,7 @@ abbrev join_step : Option ℕ → List ℕ → List ℕ
 join_step None ps = ps
 join_step (Some p) ps = p ∷ ps
 
-abbrev steps_in : List (Place Order) → List ℕ
+abbrev steps_in : List (Option Order) → List ℕ
 steps_in [] = []
 steps_in (p ∷ ps) = join_step (step_at p) (steps_in ps)
 
@@ -39,25 +37,25 @@ step_range Buy p qs in-range rest =
     cond_both (ltb p 100000) (Some (p + 1)) None (λ st. All InRange (join_step st qs)) (λ t. (omega (arith, ltb-true p 100000 t), rest)) (λ _. rest)
 step_range Sell p qs in-range rest = (in-range, rest)
 
-steps_range : (rs : List (Place Order)) → ((i : ℕ) → i < length rs → (y : Order) → Holds rs i y → InRange y.price) → All InRange (steps_in rs)
+steps_range : (rs : List (Option Order)) → ((i : ℕ) → i < length rs → (y : Order) → Holds rs i y → InRange y.price) → All InRange (steps_in rs)
 steps_range [] h = tt
-steps_range (Vacant ∷ rs) h = steps_range rs (λ i lt. h (suc i) (omega arith))
-steps_range (Holding o ∷ rs) h = step_range o.side o.price (steps_in rs) (h 0 (omega arith) o refl) (steps_range rs (λ i lt. h (suc i) (omega arith)))
+steps_range (None ∷ rs) h = steps_range rs (λ i lt. h (suc i) (omega arith))
+steps_range (Some o ∷ rs) h = step_range o.side o.price (steps_in rs) (h 0 (omega arith) o refl) (steps_range rs (λ i lt. h (suc i) (omega arith)))
 
 join_later : (st : Option ℕ) {q : ℕ} {qs : List ℕ} → Memᴰ q qs → Memᴰ q (join_step st qs)
 join_later None m = m
 join_later (Some p) m = Memᴰ.tail m
 
-step_there : (rs : List (Place Order)) (i : ℕ) (y : Order) (q : ℕ) → i < length rs → Holds rs i y → step_of y.side y.price ≡ Some q → Memᴰ q (steps_in rs)
+step_there : (rs : List (Option Order)) (i : ℕ) (y : Order) (q : ℕ) → i < length rs → Holds rs i y → step_of y.side y.price ≡ Some q → Memᴰ q (steps_in rs)
 step_there [] i y q lt holds e = absurd (omega arith)
 step_there (r ∷ rs) zero y q lt holds e = subst (λ st. Memᴰ q (join_step st (steps_in rs))) (sym (ap step_at holds ∙ e)) (Memᴰ.head refl)
 step_there (r ∷ rs) (suc i) y q lt holds e = join_later (step_at r) (step_there rs i y q (omega arith) holds e)
 
 -- an order of a side in a place
-abbrev HeldOn : List (Place Order) → Side → Order → Type 0
+abbrev HeldOn : List (Option Order) → Side → Order → Type 0
 HeldOn ps t o = HeldAt ps o × (o.side ≡ t)
 
-buy_steps_there : (ps : List (Place Order)) (os : List Order) → ((o : Order) → Memᴰ o os → HeldOn ps Buy o) → All (λ q. Memᴰ q (1 ∷ steps_in ps)) (buy_steps os)
+buy_steps_there : (ps : List (Option Order)) (os : List Order) → ((o : Order) → Memᴰ o os → HeldOn ps Buy o) → All (λ q. Memᴰ q (1 ∷ steps_in ps)) (buy_steps os)
 buy_steps_there ps [] h = tt
 buy_steps_there ps (o ∷ os) h =
     let here = h o (Memᴰ.head refl) in
@@ -70,7 +68,7 @@ buy_steps_there ps (o ∷ os) h =
     ))
     (λ _. rest)
 
-sell_steps_there : (ps : List (Place Order)) (os : List Order) → ((o : Order) → Memᴰ o os → HeldOn ps Sell o) → All (λ q. Memᴰ q (1 ∷ steps_in ps)) (sell_steps os)
+sell_steps_there : (ps : List (Option Order)) (os : List Order) → ((o : Order) → Memᴰ o os → HeldOn ps Sell o) → All (λ q. Memᴰ q (1 ∷ steps_in ps)) (sell_steps os)
 sell_steps_there ps [] h = tt
 sell_steps_there ps (o ∷ os) h =
     let here = h o (Memᴰ.head refl) in (
@@ -85,7 +83,7 @@ total_high t next f (x ∷ xs) live =
     let one = live.0 in
     cond_both (f x) (x ∷ keep f xs) (keep f xs) (λ ys. total ys ≤ 50000 * length (x ∷ xs)) (λ _. omega (arith, one.no_more_than_entered, one.quantity_high)) (λ _. omega arith)
 
-module _ {rule : Rule} (ps : List (Place Order)) (b : Book) (sound : Sound rule b) (orders : SameOrders ps b) (few : length (resting b) ≤ 1024) where
+module _ {rule : Rule} (ps : List (Option Order)) (b : Book) (sound : Sound rule b) (orders : SameOrders ps b) (few : length (resting b) ≤ 1024) where
   bought_is : (p : ℕ) → bought ps p ≡ demand b.buys b.sells p
   bought_is p =
       omega (
@@ -117,7 +115,7 @@ module _ {rule : Rule} (ps : List (Place Order)) (b : Book) (sound : Sound rule 
       λ i.
       preferred_to (record { price = p; volume = volume_is p i; imbalance = imbalance_is p i }) (record { price = q; volume = volume_is q i; imbalance = imbalance_is q i })
 
-  best_over_lem : (p : ℕ) (rs : List (Place Order)) → best_over ps (quote_at ps p) rs ≡ quote_at ps (first b.buys b.sells p (steps_in rs))
+  best_over_lem : (p : ℕ) (rs : List (Option Order)) → best_over ps (quote_at ps p) rs ≡ quote_at ps (first b.buys b.sells p (steps_in rs))
   best_over_lem p [] = refl
   best_over_lem p (r ∷ rs) =
       elim (step_at r) as (λ st. best_over ps (better_of ps (quote_at ps p) st) rs ≡ quote_at ps (first b.buys b.sells p (join_step st (steps_in rs)))) [

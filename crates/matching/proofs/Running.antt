@@ -6,7 +6,6 @@ use Rattle.orders.specs.declared.request.Side.TheVariants.{Buy, Sell}
 use Rattle.orders.specs.declared.order.Order.{Order}
 use Rattle.orders.specs.declared.order.Fill.{Fill}
 use Rattle.plain.specs.Rule.{Rule}
-use Rattle.ranking.specs.declared.place.Place.{Place}
 use Rattle.matching.specs.declared.dealing.Deal.{Deal}
 use Rattle.matching.specs.declared.dealing.Deal.TheVariants.{Entry, Call}
 use Rattle.matching.specs.Deals.{fill_at, Turn, Turned, DealtOne, OneDeal, begin, more, RunTo}
@@ -15,7 +14,7 @@ pub fill_tonnes : (s : Side) (o x : Order) (n : ℕ) → (fill_at s o x n).quant
 fill_tonnes Buy o x n = refl
 fill_tonnes Sell o x n = refl
 
-module _ (rule : Rule) (ps qs : List (Place Order)) where
+module _ (rule : Rule) (ps qs : List (Option Order)) where
   -- a fill deals no more than is left
   turn_fits : (d : Deal) (left : ℕ) (f : Fill) → Turn rule d left ps qs f → f.quantity ≤ left
   turn_fits (Entry o) left f t = omega (arith, ap (λ (g : Fill). g.quantity) t.fill_is, fill_tonnes o.side o t.found.1)
@@ -30,11 +29,11 @@ set_after : (fs : List Fill) (y f : Fill) (rest : List Fill) (k : ℕ) → lengt
 set_after [] y f rest k e = rw (sym e)
 set_after (x ∷ fs) y f rest k e = rw (sym e) (ap (λ zs. x ∷ zs) (set_after fs y f rest (length fs) refl))
 
-module _ {rule : Rule} {d : Deal} {start : ℕ} {before : List (Place Order)} (lent : List Fill) where
+module _ {rule : Rule} {d : Deal} {start : ℕ} {before : List (Option Order)} (lent : List Fill) where
   pub run_start : RunTo rule d start before lent 0 before lent start
   run_start = record { fills = []; run = begin; many = refl; list_is = refl }
 
-  pub run_more : (k left : ℕ) (ps qs : List (Place Order)) (list : List Fill) (f : Fill) → k < length lent → RunTo rule d start before lent k ps list left →
+  pub run_more : (k left : ℕ) (ps qs : List (Option Order)) (list : List Fill) (f : Fill) → k < length lent → RunTo rule d start before lent k ps list left →
       DealtOne rule d left ps qs f → RunTo rule d start before lent (k + 1) qs (set list k f) (left - f.quantity)
   run_more k left ps qs list f h r d =
       record {

@@ -1,5 +1,5 @@
 -- A run of fills that has ended has dealt all that the plain book deals. Assumes nothing.
-use Rattle.std.proofs.Common.{◌≡◌, ℕ, ◌+◌, ◌-◌, ◌≤◌, List, [], ◌∷◌, ◌++◌, length, drop, set, sym, refl, ap, ◌∙◌, subst, inl, inr, append_assoc, append-nil, arith, length-append, length-set}
+use Rattle.std.proofs.Common.{◌≡◌, ℕ, ◌+◌, ◌-◌, ◌≤◌, List, [], ◌∷◌, ◌++◌, length, drop, set, sym, refl, ap, ◌∙◌, subst, inl, inr, append_assoc, append-nil, arith, length-append, length-set, Option}
 use Rattle.orders.specs.declared.request.Side.{Side}
 use Rattle.orders.specs.declared.request.Side.TheVariants.{Buy, Sell}
 use Rattle.orders.specs.declared.order.Order.{Order}
@@ -14,7 +14,6 @@ use Rattle.plain.proofs.Sides.{side_dealt}
 use Rattle.plain.proofs.StaysSound.{dealt_sound}
 use Rattle.plain.proofs.Thinned.{settled_thins, thinned_not_numbered}
 use Rattle.plain.proofs.Crossing.{settled_nothing, settled_append, dealt_nothing, dealt_unsold}
-use Rattle.ranking.specs.declared.place.Place.{Place}
 use Rattle.matching.specs.Weights.{SameOrders}
 use Rattle.matching.specs.declared.dealing.Deal.{Deal}
 use Rattle.matching.specs.declared.dealing.Deal.TheVariants.{Entry, Call}
@@ -45,11 +44,11 @@ tonnes_append : (fs : List Fill) (f : Fill) → tonnes (fs ++ (f ∷ [])) ≡ to
 tonnes_append [] f = omega arith
 tonnes_append (g ∷ fs) f = omega (arith, tonnes_append fs f)
 
-turn_length : (rule : Rule) (d : Deal) (left : ℕ) (ps qs : List (Place Order)) (f : Fill) → Turn rule d left ps qs f → length qs ≡ length ps
+turn_length : (rule : Rule) (d : Deal) (left : ℕ) (ps qs : List (Option Order)) (f : Fill) → Turn rule d left ps qs f → length qs ≡ length ps
 turn_length rule (Entry o) left ps qs f t = ap length t.places_are ∙ length-set ps t.found.0 _
 turn_length rule (Call price) left ps qs f t = ap length t.places_are ∙ length-set (set ps t.buy.0 _) t.sell.0 _ ∙ length-set ps t.buy.0 _
 
-pub run_length : {rule : Rule} {d : Deal} {start : ℕ} {before : List (Place Order)} {fs : List Fill} {ps : List (Place Order)} {left : ℕ} → Run rule d start before fs ps left → length ps ≡ length before
+pub run_length : {rule : Rule} {d : Deal} {start : ℕ} {before : List (Option Order)} {fs : List Fill} {ps : List (Option Order)} {left : ℕ} → Run rule d start before fs ps left → length ps ≡ length before
 run_length begin = refl
 run_length {rule} {d} (more {fs} {ps} {qs} {left} {f} run one) = turn_length rule d left ps qs f one.turn ∙ run_length run
 
@@ -61,7 +60,7 @@ nothing_left : (d : Deal) (c : Book) (left : ℕ) → left ≡ 0 → to_come d l
 nothing_left (Entry o) c left e = fills_none o.side o left (keep (within o.side o.price) (side (other o.side) c)) (omega arith)
 nothing_left (Call price) c left e = dealt_nothing (λ _ _. price) left (keep (within Sell price) c.buys) (keep (within Buy price) c.sells) e
 
-nobody_left : {rule : Rule} → Lawful rule → (ps : List (Place Order)) (c : Book) → Sound rule c → SameOrders ps c → (d : Deal) (left : ℕ) → Nobody rule d ps → to_come d left c ≡ []
+nobody_left : {rule : Rule} → Lawful rule → (ps : List (Option Order)) (c : Book) → Sound rule c → SameOrders ps c → (d : Deal) (left : ℕ) → Nobody rule d ps → to_come d left c ≡ []
 nobody_left law ps c sound orders (Entry o) left nobody =
     let none = found_nobody law ps c sound orders o.side o.price nobody in
     fills_none o.side o left (keep (within o.side o.price) (side (other o.side) c)) (omega (arith, ap total none))
@@ -72,19 +71,19 @@ nobody_left law ps c sound orders (Call price) left (inr nobody) =
     dealt_unsold (λ _ _. price) left (keep (within Sell price) c.buys)
 
 -- the places, the lent list and what is left after fills
-pub record Dealt (fs : List Fill) (start : ℕ) (b : Book) (phase : Phase) (next : ℕ) (before ps : List (Place Order)) (lent list : List Fill) (r : ℕ × ℕ) : Type 0 where
+pub record Dealt (fs : List Fill) (start : ℕ) (b : Book) (phase : Phase) (next : ℕ) (before ps : List (Option Order)) (lent list : List Fill) (r : ℕ × ℕ) : Type 0 where
   pub orders : SameOrders ps (dealt_with phase next fs b)
   pub same_length : length ps ≡ length before
   pub sum : r.1 + tonnes fs ≡ start
   pub count_is : r.0 ≡ length fs
   pub list_is : list ≡ fs ++ drop (length fs) lent
 
-module _ {rule : Rule} (law : Lawful rule) (d : Deal) (start : ℕ) (b : Book) (sound : Sound rule b) (new : New d b) (before : List (Place Order)) (orders : SameOrders before b) (phase : Phase) (next : ℕ) (later : b.next ≤ next) where
+module _ {rule : Rule} (law : Lawful rule) (d : Deal) (start : ℕ) (b : Book) (sound : Sound rule b) (new : New d b) (before : List (Option Order)) (orders : SameOrders before b) (phase : Phase) (next : ℕ) (later : b.next ≤ next) where
   abbrev after : List Fill → Book
   after fs = dealt_with phase next fs b
 
   -- what some fills of a run leave, and what is still to come
-  record Along (fs : List Fill) (ps : List (Place Order)) (left : ℕ) : Type 0 where
+  record Along (fs : List Fill) (ps : List (Option Order)) (left : ℕ) : Type 0 where
     pub held : SameOrders ps (after fs)
     pub whole : fs ++ to_come d left (after fs) ≡ to_come d start b
     pub sum : left + tonnes fs ≡ start
@@ -95,7 +94,7 @@ module _ {rule : Rule} (law : Lawful rule) (d : Deal) (start : ℕ) (b : Book) (
       let sells = settled_nothing Sell Sell b.next b.sells sound.sells_live in
       record { held = λ w. rw (buys, sells) (orders w); whole = same_to_come (after []) b buys sells d start; sum = omega arith }
 
-  one_more : (fs : List Fill) (ps qs : List (Place Order)) (left : ℕ) (f : Fill) → Along fs ps left → DealtOne rule d left ps qs f →
+  one_more : (fs : List Fill) (ps qs : List (Option Order)) (left : ℕ) (f : Fill) → Along fs ps left → DealtOne rule d left ps qs f →
       Along (fs ++ (f ∷ [])) qs (left - f.quantity)
   one_more fs ps qs left f a one =
       let n = next_fill law (after fs) (dealt_sound law phase next fs b later sound) ps qs a.held phase next left one.some_left d f (new_still d phase next fs b new) one.turn in
@@ -106,11 +105,11 @@ module _ {rule : Rule} (law : Lawful rule) (d : Deal) (start : ℕ) (b : Book) (
         sum = omega (arith, a.sum, one.no_more, tonnes_append fs f);
       }
 
-  along : {fs : List Fill} {ps : List (Place Order)} {left : ℕ} → Run rule d start before fs ps left → Along fs ps left
+  along : {fs : List Fill} {ps : List (Option Order)} {left : ℕ} → Run rule d start before fs ps left → Along fs ps left
   along begin = none_yet
   along (more {fs} {ps} {qs} {left} {f} run one) = one_more fs ps qs left f (along run) one
 
-  pub runs_out : (ps : List (Place Order)) (lent list : List Fill) (r : ℕ × ℕ) → RunOut rule d start before lent ps list r → length (to_come d start b) ≤ length lent →
+  pub runs_out : (ps : List (Option Order)) (lent list : List Fill) (r : ℕ × ℕ) → RunOut rule d start before lent ps list r → length (to_come d start b) ≤ length lent →
       Dealt (to_come d start b) start b phase next before ps lent list r
   runs_out ps lent list r out fits =
       let fs = out.run_to.fills in

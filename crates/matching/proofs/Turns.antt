@@ -1,5 +1,5 @@
 -- One fill in the places is the next fill of the plain book, and leaves what it leaves. Assumes nothing.
-use Rattle.std.proofs.Common.{◌≡◌, ℕ, ◌+◌, ◌-◌, ◌<◌, ◌≤◌, min, Bool, true, eqb, ◌≢◌, List, [], ◌∷◌, length, get_or, set, sym, refl, ap, ◌∙◌, subst, ⊎_elim, le_refl, arith, length-set, get_or-set_other}
+use Rattle.std.proofs.Common.{◌≡◌, ℕ, ◌+◌, ◌-◌, ◌<◌, ◌≤◌, min, Bool, true, eqb, ◌≢◌, List, [], ◌∷◌, length, get_or, set, sym, refl, ap, ◌∙◌, subst, ⊎_elim, le_refl, arith, length-set, get_or-set_other, Option, None, Some}
 use Rattle.std.proofs.lemmas.Bool.{lt-leb, le-leb, lt-ltb, le-ltb, cases_lt, and_parts}
 use Rattle.orders.specs.declared.request.Side.{Side}
 use Rattle.orders.specs.declared.request.Side.TheVariants.{Buy, Sell}
@@ -15,8 +15,6 @@ use Rattle.plain.proofs.Sides.{side_dealt}
 use Rattle.plain.proofs.StaysSound.{sides_distinct}
 use Rattle.plain.proofs.Thinned.{keep_thins, thinned_live}
 use Rattle.plain.proofs.Crossing.{cut_first, keep_cut, settled_others, settled_nothing, settled_cut, cross_more}
-use Rattle.ranking.specs.declared.place.Place.{Place}
-use Rattle.ranking.specs.declared.place.Place.TheVariants.{Vacant, Holding}
 use Rattle.ranking.specs.Search.{Holds}
 use Rattle.matching.specs.declared.dealing.Deal.{Deal}
 use Rattle.matching.specs.declared.dealing.Deal.TheVariants.{Entry, Call}
@@ -42,7 +40,7 @@ New (Entry o) c = NotNumbered o.number (side o.side c)
 New (Call price) c = Unit {0}
 
 -- the book after fills, and the fills that are still to come of it
-pub record NextFill (d : Deal) (left : ℕ) (c : Book) (phase : Phase) (next : ℕ) (qs : List (Place Order)) (f : Fill) : Type 0 where
+pub record NextFill (d : Deal) (left : ℕ) (c : Book) (phase : Phase) (next : ℕ) (qs : List (Option Order)) (f : Fill) : Type 0 where
   pub orders : SameOrders qs (dealt_with phase next (f ∷ []) c)
   pub fills : to_come d left c ≡ f ∷ to_come d (left - f.quantity) (dealt_with phase next (f ∷ []) c)
 
@@ -89,7 +87,7 @@ names_own : (s : Side) (o x : Order) (q m : ℕ) → names s m (fill_at s o x q)
 names_own Buy o x q m = refl
 names_own Sell o x q m = refl
 
-module _ {rule : Rule} (c : Book) (sound : Sound rule c) (ps : List (Place Order)) (orders : SameOrders ps c) (phase : Phase) (next left : ℕ) (some : 1 ≤ left) where
+module _ {rule : Rule} (c : Book) (sound : Sound rule c) (ps : List (Option Order)) (orders : SameOrders ps c) (phase : Phase) (next left : ℕ) (some : 1 ≤ left) where
   module _ (s : Side) (limit : ℕ) (o : Order) (i : ℕ) (x : Order) (q : ℕ) (head : Heads rule s limit c x) where
     abbrev F : Fill
     F = fill_at s o x q
@@ -149,7 +147,7 @@ module _ {rule : Rule} (c : Book) (sound : Sound rule c) (ps : List (Place Order
     call_weighs : i < length ps → Holds ps i x → k < length ps → Holds ps k y → k ≢ i → SameOrders (set (set ps i (reduced x q)) k (reduced y q)) E
     call_weighs inside holds inside' holds' apart w =
         let there : k < length (set ps i (reduced x q)) = omega (arith, length-set ps i (reduced x q)) in
-        let still : get_or (set ps i (reduced x q)) k Vacant ≡ Holding y = rw get_or-set_other holds' in
+        let still : get_or (set ps i (reduced x q)) k None ≡ Some y = rw get_or-set_other holds' in
         omega (
           arith,
           held_set w ps i (reduced x q) inside,
@@ -183,7 +181,7 @@ module _ {rule : Rule} (c : Book) (sound : Sound rule c) (ps : List (Place Order
         ap (λ ss. G ∷ dealt (λ _ _. price) (left - q) (keep (within Sell price) E.buys) ss) (sym kept')
 
 -- a buy and a sell lie in different places
-sides_differ : (ps : List (Place Order)) (i k : ℕ) (x y : Order) → Holds ps i x → Holds ps k y → same_side Buy x.side ≡ true → same_side Sell y.side ≡ true → k ≢ i
+sides_differ : (ps : List (Option Order)) (i k : ℕ) (x y : Order) → Holds ps i x → Holds ps k y → same_side Buy x.side ≡ true → same_side Sell y.side ≡ true → k ≢ i
 sides_differ ps i k x y holds holds' bx sy e =
     let at : Holds ps i y = subst (λ j. Holds ps j y) e holds' in
     let same : x.side ≡ y.side = cc in
@@ -191,7 +189,7 @@ sides_differ ps i k x y holds holds' bx sy e =
     let z : ◌≡◌ {A = ℕ} 0 1 = cc in
     omega arith
 
-module _ {rule : Rule} (law : Lawful rule) (c : Book) (sound : Sound rule c) (ps qs : List (Place Order)) (orders : SameOrders ps c) (phase : Phase) (next left : ℕ) (some : 1 ≤ left) where
+module _ {rule : Rule} (law : Lawful rule) (c : Book) (sound : Sound rule c) (ps qs : List (Option Order)) (orders : SameOrders ps c) (phase : Phase) (next left : ℕ) (some : 1 ≤ left) where
   entry_turn : (o : Order) (f : Fill) → NotNumbered o.number (side o.side c) → EntryTurn rule o left ps qs f → NextFill (Entry o) left c phase next qs f
   entry_turn o f new t =
       let x = t.found.1 in

@@ -3,20 +3,18 @@ use Rattle.std.specs.Prelude.{ℕ, ◌+◌, ◌-◌, min, Bool, cond, ◌&&◌, 
 use Rattle.orders.specs.declared.request.Side.{Side}
 use Rattle.orders.specs.declared.request.Side.TheVariants.{Buy, Sell}
 use Rattle.orders.specs.declared.order.Order.{Order}
-use Rattle.ranking.specs.declared.place.Place.{Place}
-use Rattle.ranking.specs.declared.place.Place.TheVariants.{Vacant, Holding}
 use Rattle.matching.specs.declared.quote.Quote.{Quote}
 use Rattle.matching.specs.Weights.{held_weight, capped}
 use Rattle.matching.specs.Scans.{opposite, tonnes_if}
 
 -- the tonnes bought at a price or more, and sold at it or less
-abbrev pub bought : List (Place Order) → ℕ → ℕ
+abbrev pub bought : List (Option Order) → ℕ → ℕ
 bought ps p = capped (held_weight (tonnes_if (opposite Sell p)) ps)
 
-abbrev pub sold : List (Place Order) → ℕ → ℕ
+abbrev pub sold : List (Option Order) → ℕ → ℕ
 sold ps p = capped (held_weight (tonnes_if (opposite Buy p)) ps)
 
-abbrev pub quote_at : List (Place Order) → ℕ → Quote
+abbrev pub quote_at : List (Option Order) → ℕ → Quote
 quote_at ps p = record { price = p; volume = min (bought ps p) (sold ps p); imbalance = (bought ps p - sold ps p) + (sold ps p - bought ps p) }
 
 -- whether the first is taken before the second
@@ -29,20 +27,20 @@ abbrev pub step_of : Side → ℕ → Option ℕ
 step_of Buy p = cond (nat_lt p 100000) (Some (p + 1)) None
 step_of Sell p = Some p
 
-abbrev pub step_at : Place Order → Option ℕ
-step_at Vacant = None
-step_at (Holding o) = step_of o.side o.price
+abbrev pub step_at : Option Order → Option ℕ
+step_at None = None
+step_at (Some o) = step_of o.side o.price
 
-abbrev pub better_of : List (Place Order) → Quote → Option ℕ → Quote
+abbrev pub better_of : List (Option Order) → Quote → Option ℕ → Quote
 better_of ps best None = best
 better_of ps best (Some p) = cond (preferred_to (quote_at ps p) best) (quote_at ps p) best
 
 -- the best of a quote and those at the steps of some places
-abbrev pub best_over : List (Place Order) → Quote → List (Place Order) → Quote
+abbrev pub best_over : List (Option Order) → Quote → List (Option Order) → Quote
 best_over ps best [] = best
 best_over ps best (q ∷ qs) = best_over ps (better_of ps best (step_at q)) qs
 
-abbrev pub best_quote : List (Place Order) → Quote
+abbrev pub best_quote : List (Option Order) → Quote
 best_quote ps = best_over ps (quote_at ps 1) ps
 
 -- 0 where nothing deals

@@ -5,22 +5,20 @@ use Rattle.orders.specs.declared.request.Side.TheVariants.{Buy, Sell}
 use Rattle.orders.specs.declared.order.Order.{Order}
 use Rattle.plain.specs.Rule.{Rule}
 use Rattle.plain.specs.Orders.{within, other}
-use Rattle.ranking.specs.declared.place.Place.{Place}
-use Rattle.ranking.specs.declared.place.Place.TheVariants.{Vacant}
 use Rattle.ranking.specs.Search.{Holds}
 use Rattle.matching.specs.Weights.{Weight, held_weight}
 
 -- the first n places are vacant
-abbrev pub AllVacant : List (Place Order) → ℕ → Type 0
-AllVacant ps n = (i : ℕ) → i < n → slice_index_or ps i Vacant ≡ Vacant
+abbrev pub AllVacant : List (Option Order) → ℕ → Type 0
+AllVacant ps n = (i : ℕ) → i < n → slice_index_or ps i None ≡ None
 
 -- a vacant place among the first n
-abbrev pub VacantIn : List (Place Order) → ℕ → Option ℕ → Type 0
-VacantIn ps n None = (i : ℕ) → i < n → slice_index_or ps i Vacant ≢ Vacant
-VacantIn ps n (Some k) = (k < n) × (slice_index_or ps k Vacant ≡ Vacant)
+abbrev pub VacantIn : List (Option Order) → ℕ → Option ℕ → Type 0
+VacantIn ps n None = (i : ℕ) → i < n → slice_index_or ps i None ≢ None
+VacantIn ps n (Some k) = (k < n) × (slice_index_or ps k None ≡ None)
 
 -- the order of a number among the first n places
-abbrev pub NumberedIn : ℕ → List (Place Order) → ℕ → Option (ℕ × Order) → Type 0
+abbrev pub NumberedIn : ℕ → List (Option Order) → ℕ → Option (ℕ × Order) → Type 0
 NumberedIn number ps n None = (i : ℕ) → i < n → (y : Order) → Holds ps i y → y.number ≢ number
 NumberedIn number ps n (Some s) = (s.0 < n) × Holds ps s.0 s.1 × (s.1.number ≡ number)
 
@@ -48,9 +46,9 @@ abbrev pub ahead_of : Rule → Order → Weight
 ahead_of rule o = only_side o.side (one_if (λ y. rule y o))
 
 -- the order of a side among the first n places that so many less one are ahead of
-abbrev pub HasRank : Rule → Side → ℕ → List (Place Order) → Order → Type 0
+abbrev pub HasRank : Rule → Side → ℕ → List (Option Order) → Order → Type 0
 HasRank rule side rank ps o = (same_side side o.side ≡ true) × (held_weight (ahead_of rule o) ps + 1 ≡ rank)
 
-abbrev pub RankedIn : Rule → Side → ℕ → List (Place Order) → ℕ → Option Order → Type 0
+abbrev pub RankedIn : Rule → Side → ℕ → List (Option Order) → ℕ → Option Order → Type 0
 RankedIn rule side rank ps n None = (i : ℕ) → i < n → (y : Order) → Holds ps i y → HasRank rule side rank ps y → ⊥
 RankedIn rule side rank ps n (Some o) = ((i : ℕ) × (i < n) × Holds ps i o) × HasRank rule side rank ps o

@@ -6,7 +6,6 @@ ghost use Rattle.matching.specs.Deals.{fill_at, reduced, Turned, OneDeal, RunOut
 use crate::scan::first_opposite;
 use orders::order::{Fill, Order, Phase};
 use orders::request::Side;
-use ranking::place::Place;
 use ranking::places::{Places, put};
 use ranking::rank::Priority;
 
@@ -41,11 +40,11 @@ fn fill_at(side: Side, o: &Order, x: &Order, quantity: u32) -> Fill
 }
 
 // The place of an order that gave so many tonnes.
-fn reduced_by(o: &Order, quantity: u32) -> Place<Order>
+fn reduced_by(o: &Order, quantity: u32) -> Option<Order>
     ensures { result ≡ reduced o.now quantity }
 {
     if quantity < o.remaining {
-        Place::Holding(Order {
+        Some(Order {
             number: o.number,
             member: o.member,
             side: o.side,
@@ -54,7 +53,7 @@ fn reduced_by(o: &Order, quantity: u32) -> Place<Order>
             remaining: o.remaining - quantity,
         })
     } else {
-        Place::Vacant
+        None
     }
 }
 

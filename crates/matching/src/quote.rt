@@ -4,7 +4,6 @@ ghost use Rattle.matching.specs.Quotes.{quote_at, preferred_to, step_at, better_
 use crate::scan::tonnes_opposite;
 use orders::order::Order;
 use orders::request::Side;
-use ranking::place::Place;
 use ranking::places::Places;
 
 // What a call would deal at a price, and by how many tonnes the two sides differ there.
@@ -36,10 +35,10 @@ fn is_preferred(a: &Quote, b: &Quote) -> bool
 }
 
 // The price from which the order in a place changes what is dealt.
-fn step_at(place: Place<Order>) -> Option<u32>
+fn step_at(place: Option<Order>) -> Option<u32>
     ensures { result ≡ step_at place }
 {
-    let Place::Holding(o) = place else {
+    let Some(o) = place else {
         return None
     };
     match o.side {

@@ -6,7 +6,6 @@ ghost use Rattle.matching.specs.Scans.{AllVacant, VacantIn, NumberedIn, opposite
 use orders::order::Order;
 use orders::request::Side;
 use ranking::finding::{Test, first_where};
-use ranking::place::Place;
 use ranking::places::Places;
 use ranking::rank::Priority;
 
@@ -25,7 +24,7 @@ pub fn vacant<L: Places<Record = Order>>(list: &L) -> Option<usize>
     ensures { VacantIn (L.contents list.now) (length (L.contents list.now)) result }
 {
     for i in 0..list.len() {
-        if let Place::Vacant = list.get(i) {
+        if let None = list.get(i) {
             return Some(i);
         }
     }
@@ -37,7 +36,7 @@ pub fn numbered<L: Places<Record = Order>>(list: &L, number: u32) -> Option<(usi
     ensures { NumberedIn number (L.contents list.now) (length (L.contents list.now)) result }
 {
     for i in 0..list.len() {
-        if let Place::Holding(o) = list.get(i) {
+        if let Some(o) = list.get(i) {
             if o.number == number {
                 return Some((i, o));
             }
@@ -59,12 +58,12 @@ fn is_opposite(side: Side, limit: u32, o: &Order) -> bool
 }
 
 // Another order's tonnes on top, if it rests opposite; a sum past the largest number stays there.
-fn add_opposite(sum: u32, side: Side, limit: u32, place: Place<Order>) -> u32
+fn add_opposite(sum: u32, side: Side, limit: u32, place: Option<Order>) -> u32
     ensures { result ≡ capped (sum + place_weight (tonnes_if (opposite side limit)) place) }
 {
     match place {
-        Place::Vacant => sum,
-        Place::Holding(o) => {
+        None => sum,
+        Some(o) => {
             if is_opposite(side, limit, &o) {
                 sum.saturating_add(o.remaining)
             } else {
@@ -124,13 +123,13 @@ fn is_same_side(a: Side, b: Side) -> bool
 }
 
 // 1 for an order of the same side that is ahead, and 0 for any other place.
-fn one_ahead<R: Priority>(rule: &R, o: &Order, place: Place<Order>) -> usize
+fn one_ahead<R: Priority>(rule: &R, o: &Order, place: Option<Order>) -> usize
     ensures weighs { result ≡ place_weight (ahead_of (R.Ranking.ahead rule.now) o.now) place }
     ensures small { result ≤ 1 }
 {
     match place {
-        Place::Vacant => 0,
-        Place::Holding(y) => {
+        None => 0,
+        Some(y) => {
             if is_same_side(o.side, y.side) && rule.is_ahead(&y, o) {
                 1
             } else {
@@ -161,7 +160,7 @@ pub fn with_ahead<L: Places<Record = Order>, R: Priority>(
     ensures { RankedIn (R.Ranking.ahead rule.now) side rank (L.Places.contents list.now) (length (L.Places.contents list.now)) result }
 {
     for i in 0..list.len() {
-        if let Place::Holding(o) = list.get(i) {
+        if let Some(o) = list.get(i) {
             if is_same_side(side, o.side) {
                 let n = count_ahead(list, rule, &o);
                 if n < rank && rank - n == 1 {

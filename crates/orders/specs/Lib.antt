@@ -1,4 +1,5 @@
 pub mod Answers
 pub mod Causes
+pub mod Entries
 pub mod Rows
 pub mod Sides

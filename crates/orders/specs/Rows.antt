@@ -1,5 +1,5 @@
 -- Plain rows, and the requests that are made from them. Assumes nothing.
-use Rattle.std.specs.Prelude.{◌≡◌, ℕ, Bool, cond, not, ◌&&◌, ◌||◌, Some, None, Ok, Err, Option, Result, ◌==◌, nat_lt}
+use Rattle.std.specs.Prelude.{◌≡◌, ℕ, Bool, cond, not, ◌&&◌, ◌||◌, Some, None, Ok, Err, ok_or, Option, Result, ◌==◌, nat_lt}
 use Rattle.orders.specs.declared.refusal.Cause.{Cause}
 use Rattle.orders.specs.declared.refusal.Cause.TheVariants.{UnknownMember, BadSideOrLife, OutOfRange}
 use Rattle.orders.specs.declared.request.Side.{Side}
@@ -44,6 +44,12 @@ side_of n = cond (n == 1) (Some Buy) (cond (n == 2) (Some Sell) None)
 
 abbrev pub life_of : ℕ → Option Life
 life_of n = cond (n == 1) (Some Rest) (cond (n == 2) (Some Kill) None)
+
+abbrev pub SideNumbered : ℕ → Result Side Cause → Type 0
+SideNumbered n r = r ≡ ok_or (side_of n) BadSideOrLife
+
+abbrev pub LifeNumbered : ℕ → Result Life Cause → Type 0
+LifeNumbered n r = r ≡ ok_or (life_of n) BadSideOrLife
 
 -- neither 1 nor 2
 abbrev pub neither : ℕ → Bool

@@ -1,6 +1,8 @@
 ghost use Rattle.std.specs.Prelude.{◌≡◌};
 ghost use Rattle.orders.specs.Answers.{count};
+ghost use Rattle.orders.specs.Entries.{entered};
 
+use crate::entry::Entry;
 use crate::request::Side;
 
 // What became of an entry.
@@ -11,6 +13,22 @@ pub struct Entered {
     pub dealt: u32,
     pub resting: u32,
     pub withdrawn: u32,
+}
+
+impl Entered {
+    // What became of an entry of which so many tonnes are left after so many fills.
+    pub fn of(entry: &Entry, number: u32, fills: u32, left: u32) -> Entered
+        ensures { result ≡ entered entry.now number fills left }
+    {
+        let rests = entry.life().rests();
+        Entered {
+            number,
+            fills,
+            dealt: entry.quantity().saturating_sub(left),
+            resting: if rests { left } else { 0 },
+            withdrawn: if rests { 0 } else { left },
+        }
+    }
 }
 
 // What a cancel took away.

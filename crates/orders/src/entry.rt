@@ -1,5 +1,6 @@
 ghost use Rattle.std.specs.Prelude.{◌≡◌, ◌≤◌};
 
+pub mod entering;
 pub mod making;
 
 use crate::request::{Life, Side};

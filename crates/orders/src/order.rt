@@ -1,3 +1,6 @@
+ghost use Rattle.std.specs.Prelude.{◌≡◌};
+ghost use Rattle.orders.specs.Entries.{fill_at};
+
 use crate::request::Side;
 
 // An order, with the tonnes that it was entered for and what remains of them.
@@ -32,6 +35,20 @@ impl Fill {
         price: 0,
         quantity: 0,
     };
+
+    // A fill of tonnes between a buy and a sell.
+    pub fn between(buy: &Order, sell: &Order, price: u32, quantity: u32) -> Fill
+        ensures { result ≡ fill_at price buy.now sell.now quantity }
+    {
+        Fill {
+            buy: buy.number,
+            sell: sell.number,
+            buyer: buy.member,
+            seller: sell.member,
+            price,
+            quantity,
+        }
+    }
 }
 
 // Orders are gathered for a call, or each is dealt as it comes.

@@ -1,8 +1,11 @@
-ghost use Rattle.std.specs.Prelude.{◌≡◌};
+ghost use Rattle.std.specs.Prelude.{◌≡◌, Some};
 ghost use Rattle.orders.specs.Causes.{cause_number, cause_name};
 
+use std::error::Error;
+use std::fmt;
+
 // Why a request, a record, a set-up, a claim or a booking is refused. The numbers are part of the formats.
-#[derive(Clone, Copy, PartialEq, Eq)]
+#[derive(Clone, Copy, Debug, PartialEq, Eq)]
 pub enum Cause {
     BadSetup = 1,
     BadVersion = 2,
@@ -54,7 +57,25 @@ impl Cause {
             Cause::LedgerFull => "ledger full",
         }
     }
+
+    // A refusal for this cause, by the layer or book at a height.
+    pub fn at(self, height: u8) -> Refusal
+        ensures { (result.cause ≡ self) × (result.height ≡ Some height) }
+    {
+        Refusal {
+            cause: self,
+            height: Some(height),
+        }
+    }
 }
+
+impl fmt::Display for Cause {
+    fn fmt<W: fmt::Write>(&self, f: &mut fmt::Formatter<W>) -> fmt::Result {
+        f.write_str(self.name())
+    }
+}
+
+impl Error for Cause {}
 
 // A cause and, where a pile of layers gave it, the height of the layer or book that refused.
 #[derive(Clone, Copy, PartialEq, Eq)]

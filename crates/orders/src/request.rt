@@ -1,11 +1,13 @@
 ghost use Rattle.std.specs.Prelude.{◌≡◌};
-ghost use Rattle.orders.specs.Rows.{side_number, life_number};
-ghost use Rattle.orders.specs.Sides.{other};
+ghost use Rattle.orders.specs.Rows.{side_number, life_number, SideNumbered, LifeNumbered};
+ghost use Rattle.orders.specs.Sides.{other, within_limit, rests};
 
 pub mod making;
 
 use crate::cancel::Cancel;
 use crate::entry::Entry;
+use crate::refusal::Cause;
+use std::fmt;
 
 // Buy or sell. The numbers are those of a request file.
 #[derive(Clone, Copy, PartialEq, Eq)]
@@ -29,6 +31,39 @@ impl Side {
     {
         self as u8
     }
+
+    // Whether an order of the side with a limit may deal at a price.
+    pub fn reaches(self, limit: u32, price: u32) -> bool
+        ensures { result ≡ within_limit self limit price }
+    {
+        match self {
+            Side::Buy => price <= limit,
+            Side::Sell => limit <= price,
+        }
+    }
+}
+
+impl TryFrom<u8> for Side {
+    type Error = Cause;
+
+    ghost try_from_gives = { SideNumbered };
+
+    fn try_from(number: u8) -> Result<Side, Cause> {
+        match number {
+            1 => Ok(Side::Buy),
+            2 => Ok(Side::Sell),
+            _ => Err(Cause::BadSideOrLife),
+        }
+    }
+}
+
+impl fmt::Display for Side {
+    fn fmt<W: fmt::Write>(&self, f: &mut fmt::Formatter<W>) -> fmt::Result {
+        f.write_str(match self {
+            Side::Buy => "buy",
+            Side::Sell => "sell",
+        })
+    }
 }
 
 // What becomes of the tonnes that an entry does not deal at once: they rest, or are withdrawn. The numbers are those of a request file.
@@ -43,6 +78,39 @@ impl Life {
         ensures { result ≡ life_number self }
     {
         self as u8
+    }
+
+    // Whether tonnes that are not dealt at once rest.
+    pub fn rests(self) -> bool
+        ensures { result ≡ rests self }
+    {
+        match self {
+            Life::Rest => true,
+            Life::Kill => false,
+        }
+    }
+}
+
+impl TryFrom<u8> for Life {
+    type Error = Cause;
+
+    ghost try_from_gives = { LifeNumbered };
+
+    fn try_from(number: u8) -> Result<Life, Cause> {
+        match number {
+            1 => Ok(Life::Rest),
+            2 => Ok(Life::Kill),
+            _ => Err(Cause::BadSideOrLife),
+        }
+    }
+}
+
+impl fmt::Display for Life {
+    fn fmt<W: fmt::Write>(&self, f: &mut fmt::Formatter<W>) -> fmt::Result {
+        f.write_str(match self {
+            Life::Rest => "rest",
+            Life::Kill => "kill",
+        })
     }
 }
 

@@ -6,7 +6,6 @@ use orders::answer::Answer;
 use orders::order::{Fill, Order};
 use orders::row::Row;
 use ranked::book::open;
-use ranking::place::Place;
 use ranking::places::{Lent, Places};
 use ranking::rank::Priority;
 use ranking::rules::{Size, Time};
@@ -113,7 +112,7 @@ fn scenario<V: Venue>(rt: &impl Abort, venue: &mut V, which: u8) -> Result<(), F
 #[test]
 fn tried_on_the_ranked_book(rt: HostRuntime) -> Result<(), Fail> {
     for which in 0..3 {
-        all_on_ranked(&rt, Lent::over(&mut [Place::Vacant; 8]), which)?;
+        all_on_ranked(&rt, Lent::over(&mut [None; 8]), which)?;
     }
     Ok(())
 }
@@ -121,7 +120,7 @@ fn tried_on_the_ranked_book(rt: HostRuntime) -> Result<(), Fail> {
 #[test]
 fn tried_on_the_shelf_book(rt: HostRuntime) -> Result<(), Fail> {
     for which in 0..3 {
-        all_on_shelf(&rt, Lent::over(&mut [Place::Vacant; 8]), which)?;
+        all_on_shelf(&rt, Lent::over(&mut [None; 8]), which)?;
     }
     Ok(())
 }
@@ -150,12 +149,12 @@ fn taken_by<L: Places<Record = Order> + Drop, R: Priority + Drop>(
 #[test]
 fn rules(rt: HostRuntime) -> Result<(), Fail> {
     assert_eq!(rt;
-        taken_by(&rt, Lent::over(&mut [Place::Vacant; 8]), Time)?,
+        taken_by(&rt, Lent::over(&mut [None; 8]), Time)?,
         (50, 10),
         "by time"
     );
     assert_eq!(rt;
-        taken_by(&rt, Lent::over(&mut [Place::Vacant; 8]), Size)?,
+        taken_by(&rt, Lent::over(&mut [None; 8]), Size)?,
         (60, 0),
         "by size"
     );
@@ -174,7 +173,7 @@ fn full<L: Places<Record = Order> + Drop>(rt: &impl Abort, list: L) -> Result<(u
 #[test]
 fn full_book(rt: HostRuntime) -> Result<(), Fail> {
     assert_eq!(rt;
-        full(&rt, Lent::over(&mut [Place::Vacant; 1]))?,
+        full(&rt, Lent::over(&mut [None; 1]))?,
         (13, 0),
         "capacity 1, one sell resting"
     );

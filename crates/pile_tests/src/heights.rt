@@ -7,7 +7,6 @@ use layers::collar::Collar;
 use layers::layer::stack;
 use orders::order::Order;
 use orders::row::Row;
-use ranking::place::Place;
 use ranking::places::{Lent, Places};
 use ranking::rules::Time;
 use shelf::shelf::Shelf;
@@ -76,7 +75,7 @@ fn mixed_over<L: Places<Record = Order> + Drop>(rt: &impl Abort, list: L) -> Res
 
 #[test]
 fn other_peoples_layers(rt: HostRuntime) -> Result<(), Fail> {
-    mixed_over(&rt, Lent::over(&mut [Place::Vacant; 8]))
+    mixed_over(&rt, Lent::over(&mut [None; 8]))
 }
 
 // The number of the refusal that a collar over a venue gets, or 0.
@@ -105,12 +104,12 @@ fn bad_layers<L: Places<Record = Order> + Drop>(
 #[test]
 fn refused_layers(rt: HostRuntime) -> Result<(), Fail> {
     assert_eq!(rt;
-        bad_layers(&rt, Lent::over(&mut [Place::Vacant; 8]), false)?,
+        bad_layers(&rt, Lent::over(&mut [None; 8]), false)?,
         1,
         "a low above its high"
     );
     assert_eq!(rt;
-        bad_layers(&rt, Lent::over(&mut [Place::Vacant; 8]), true)?,
+        bad_layers(&rt, Lent::over(&mut [None; 8]), true)?,
         1,
         "a book that is empty, but not fresh"
     );
@@ -178,5 +177,5 @@ fn high<L: Places<Record = Order> + Drop, A: Abort>(rt: &A, list: L) -> Result<(
 
 #[test]
 fn fifteen_and_no_more(rt: HostRuntime) -> Result<(), Fail> {
-    high(&rt, Lent::over(&mut [Place::Vacant; 8]))
+    high(&rt, Lent::over(&mut [None; 8]))
 }

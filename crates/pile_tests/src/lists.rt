@@ -4,7 +4,6 @@ use layers::layer::stack;
 use orders::order::{Fill, Order};
 use orders::row::Row;
 use ranked::book::open;
-use ranking::place::Place;
 use ranking::places::{Lent, Places};
 use ranking::rules::Time;
 use std::process::Abort;
@@ -27,7 +26,7 @@ fn call_with<L: Places<Record = Order> + Drop>(rt: &impl Abort, list: L) -> Resu
 
 #[test]
 fn fill_lists(rt: HostRuntime) -> Result<(), Fail> {
-    call_with(&rt, Lent::over(&mut [Place::Vacant; 2]))
+    call_with(&rt, Lent::over(&mut [None; 2]))
 }
 
 fn buy_under<L: Places<Record = Order> + Drop>(
@@ -47,12 +46,12 @@ fn buy_under<L: Places<Record = Order> + Drop>(
 #[test]
 fn caps(rt: HostRuntime) -> Result<(), Fail> {
     assert_eq!(rt;
-        buy_under(Lent::over(&mut [Place::Vacant; 8]), 0, 1)?,
+        buy_under(Lent::over(&mut [None; 8]), 0, 1)?,
         8,
         "a cap of 0"
     );
     assert_eq!(rt;
-        buy_under(Lent::over(&mut [Place::Vacant; 8]), 4294967295, 50000)?,
+        buy_under(Lent::over(&mut [None; 8]), 4294967295, 50000)?,
         0,
         "the largest cap"
     );
@@ -70,12 +69,12 @@ fn opens<L: Places<Record = Order> + Drop>(list: L) -> u8 {
 fn order_lists(rt: HostRuntime) -> Result<(), Fail> {
     assert_eq!(rt; opens(Lent::over(&mut [])), 1, "no places");
     assert_eq!(rt;
-        opens(Lent::over(&mut [Place::Vacant; 1024])),
+        opens(Lent::over(&mut [None; 1024])),
         0,
         "1,024 places"
     );
     assert_eq!(rt;
-        opens(Lent::over(&mut [Place::Vacant; 1025])),
+        opens(Lent::over(&mut [None; 1025])),
         1,
         "1,025 places"
     );

@@ -3,7 +3,6 @@ use orders::order::Order;
 use orders::request::Side;
 use ranked::book::open;
 use ranking::finding::first_of;
-use ranking::place::Place;
 use ranking::places::{Lent, Places};
 use ranking::rank::Priority;
 use ranking::rules::{Size, Time};
@@ -17,7 +16,7 @@ use venue::venue::Venue;
 fn sells_by_rank<V: Venue>(
     rt: &impl Abort,
     venue: &mut V,
-    places: &mut [Place<Order>],
+    places: &mut [Option<Order>],
 ) -> Result<(), Fail> {
     send_all(
         rt,
@@ -26,7 +25,7 @@ fn sells_by_rank<V: Venue>(
     )?;
     for i in 0..places.len() {
         if let Some(order) = venue.order_at(Side::Sell, i + 1) {
-            places[i] = Place::Holding(order);
+            places[i] = Some(order);
         }
     }
     Ok(())
@@ -36,7 +35,7 @@ fn on_ranked<L: Places<Record = Order> + Drop, R: Priority + Drop>(
     rt: &impl Abort,
     list: L,
     rule: R,
-    places: &mut [Place<Order>],
+    places: &mut [Option<Order>],
 ) -> Result<(), Fail> {
     match open(list, rule) {
         Ok(mut book) => sells_by_rank(rt, &mut book, places),
@@ -48,7 +47,7 @@ fn on_shelf<L: Places<Record = Order> + Drop, R: Priority + Drop>(
     rt: &impl Abort,
     list: L,
     rule: R,
-    places: &mut [Place<Order>],
+    places: &mut [Option<Order>],
 ) -> Result<(), Fail> {
     match Shelf::over(list, rule) {
         Ok(mut book) => sells_by_rank(rt, &mut book, places),
@@ -60,7 +59,7 @@ fn on_shelf<L: Places<Record = Order> + Drop, R: Priority + Drop>(
 fn led_by<R: Priority>(
     rt: &impl Abort,
     rule: &R,
-    places: &mut [Place<Order>],
+    places: &mut [Option<Order>],
     number: u32,
     what: &str,
 ) -> Result<(), Fail> {
@@ -77,13 +76,13 @@ fn led_by<R: Priority>(
 
 #[test]
 fn sequences(rt: HostRuntime) -> Result<(), Fail> {
-    let mut places = [Place::Vacant; 8];
-    on_ranked(&rt, Lent::over(&mut [Place::Vacant; 8]), Time, &mut places)?;
+    let mut places = [None; 8];
+    on_ranked(&rt, Lent::over(&mut [None; 8]), Time, &mut places)?;
     led_by(&rt, &Time, &mut places, 2, "ranked, time")?;
     assert!(rt;
         !in_sequence(&Lent::over(&mut places), &Size),
         "time is not size"
     );
-    on_shelf(&rt, Lent::over(&mut [Place::Vacant; 8]), Size, &mut places)?;
+    on_shelf(&rt, Lent::over(&mut [None; 8]), Size, &mut places)?;
     led_by(&rt, &Size, &mut places, 3, "shelf, size")
 }

@@ -37,7 +37,7 @@ pub fn send<V: Venue>(
     row: &Row,
     fills: &mut [Fill],
 ) -> Result<Result<Answer, Refusal>, Fail> {
-    match Request::from_row(row) {
+    match Request::try_from(row) {
         Ok(request) => Ok(venue.serve(request, fills)),
         Err(_) => Err(Fail::new("a row that is no request")),
     }

@@ -2,8 +2,6 @@
 use Rattle.std.specs.Prelude.{ℕ, ◌+◌, ◌-◌, min, Bool, true, false, cond, ◌&&◌, List, [], ◌∷◌, ◌++◌, length, Some, None, Option, nat_lt}
 use Rattle.orders.specs.declared.request.Side.{Side}
 use Rattle.orders.specs.declared.request.Side.TheVariants.{Buy, Sell}
-use Rattle.orders.specs.declared.request.Life.{Life}
-use Rattle.orders.specs.declared.request.Life.TheVariants.{Rest, Kill}
 use Rattle.orders.specs.declared.entry.Entry.{Entry}
 use Rattle.orders.specs.declared.request.Request.{Request}
 use Rattle.orders.specs.declared.request.Request.TheVariants.{Enter, Withdraw, Call, Halt}
@@ -13,6 +11,8 @@ use Rattle.orders.specs.declared.order.Order.{Order}
 use Rattle.orders.specs.declared.order.Fill.{Fill}
 use Rattle.orders.specs.declared.answer.Answer.{Answer}
 use Rattle.orders.specs.declared.answer.Answer.TheVariants.{Entered, Withdrawn, Called, Halted}
+pub use Rattle.orders.specs.Sides.{rests}
+pub use Rattle.orders.specs.Entries.{order}
 use Rattle.plain.specs.Rule.{Rule, with_remaining}
 use Rattle.plain.specs.Orders.{keep, total, placed, find, without, within, other}
 use Rattle.plain.specs.Dealing.{Pricing, dealt, tonnes, settled}
@@ -54,10 +54,6 @@ pub record Reply : Type 0 where
 
 -- an entry
 
--- an entry as an order with a number, all of it remaining
-abbrev pub order : Entry → ℕ → Order
-order e n = record { number = n; member = e.member; side = e.side; price = e.price; quantity = e.quantity; remaining = e.quantity }
-
 -- a fill of an entry has the price of the resting order, the sell's for a buy and the buy's for a sell
 abbrev pub resting_price : Side → Pricing
 resting_price Buy b s = s.price
@@ -85,11 +81,6 @@ entry_fills Dealing e b =
 abbrev pub put : Rule → Side → Order → Book → Book
 put rule Buy o b = record { phase = b.phase; next = b.next; buys = placed rule o b.buys; sells = b.sells }
 put rule Sell o b = record { phase = b.phase; next = b.next; buys = b.buys; sells = placed rule o b.sells }
-
--- whether what an entry does not deal at once rests
-abbrev pub rests : Life → Bool
-rests Rest = true
-rests Kill = false
 
 -- the book after fills
 abbrev pub dealt_with : Phase → ℕ → List Fill → Book → Book

@@ -1,5 +1,5 @@
 -- A call's fills, one after another. Assumes nothing.
-use Rattle.std.proofs.Common.{◌≡◌, ℕ, ◌+◌, ◌-◌, ◌<◌, ◌≤◌, min, Bool, eqb, leb, List, [], ◌∷◌, ◌++◌, length, drop, set, None, sym, refl, ap, ◌∙◌, subst, ⊎_elim, append_assoc, append-nil, arith, length-append}
+use Rattle.std.proofs.Common.{◌≡◌, ℕ, ◌+◌, ◌-◌, ◌<◌, ◌≤◌, min, Bool, eqb, leb, List, [], ◌∷◌, ◌++◌, length, drop, set, None, sym, refl, ap, ◌∙◌, subst, ⊎_elim, append_assoc, append-nil, arith, length-append, Option}
 use Rattle.std.proofs.lemmas.List.{drop_more, set_at, length_push}
 use Rattle.std.proofs.lemmas.Bool.{cond_both, leb-true, leb-false, cases_eq}
 use Rattle.orders.specs.declared.request.Side.{Side}
@@ -9,7 +9,6 @@ use Rattle.orders.specs.declared.answer.Answer.TheVariants.{Called as AsCalled}
 use Rattle.orders.specs.declared.order.Order.{Order}
 use Rattle.orders.specs.declared.order.Fill.{Fill}
 use Rattle.orders.specs.declared.order.Phase.TheVariants.{Dealing}
-use Rattle.ranking.specs.declared.place.Place.{Place}
 use Rattle.plain.specs.Rule.{Rule, Lawful, with_remaining}
 use Rattle.plain.specs.Orders.{keep, total, within}
 use Rattle.plain.specs.Dealing.{takes, paired, names, dealt, settled}
@@ -88,7 +87,7 @@ some_dealt price next n (x ∷ xs) (y ∷ ys) l bought sold buys sells =
     let e = ap length (cross_more price next n (min (min n x.remaining) (min n y.remaining)) x y xs ys l buys.0.some_remains sells.1 refl) in omega arith
 
 -- some fills are dealt; those that are left come to the goal
-pub record Calling (price : ℕ) (b : Book) (goal : List Fill) (places : List (Place Order)) (st : State) (left count : ℕ) (lent fills : List Fill) : Type 0 where
+pub record Calling (price : ℕ) (b : Book) (goal : List Fill) (places : List (Option Order)) (st : State) (left count : ℕ) (lent fills : List Fill) : Type 0 where
   pub book : Book
   pub done : List Fill
   pub same_phase : book.phase ≡ b.phase
@@ -100,7 +99,7 @@ pub record Calling (price : ℕ) (b : Book) (goal : List Fill) (places : List (P
   pub sides : (t : Side) → Left t b.next left (dealt (λ _ _. price) left book.buys book.sells) goal (side t b) (side t book)
 
 module _ (price : ℕ) (b : Book) where
-  pub calling_none : (rule : Rule) → Sound rule b → (places : List (Place Order)) (st : State) (n : ℕ) (lent : List Fill) → Lies places st b → n ≤ total b.buys → n ≤ total b.sells →
+  pub calling_none : (rule : Rule) → Sound rule b → (places : List (Option Order)) (st : State) (n : ℕ) (lent : List Fill) → Lies places st b → n ≤ total b.buys → n ≤ total b.sells →
       Calling price b (dealt (λ _ _. price) n b.buys b.sells) places st n 0 lent lent
   calling_none rule sound places st n lent l bought sold =
       let goal = dealt (λ _ _. price) n b.buys b.sells in
@@ -118,8 +117,8 @@ module _ (price : ℕ) (b : Book) where
             (record { live = sound.sells_live; apart = sound.sells_distinct; enough = sold; leaves = refl });
       }
 
-  module _ (goal : List Fill) (places : List (Place Order)) (st : State) (left count : ℕ) (lent fills : List Fill) (g : Calling price b goal places st left count lent fills) where
-    pub calling_more : (places' : List (Place Order)) (r : Crossing) → 0 < left → count < length lent → Crossable price left g.book places' r →
+  module _ (goal : List Fill) (places : List (Option Order)) (st : State) (left count : ℕ) (lent fills : List Fill) (g : Calling price b goal places st left count lent fills) where
+    pub calling_more : (places' : List (Option Order)) (r : Crossing) → 0 < left → count < length lent → Crossable price left g.book places' r →
         Calling price b goal places' r.state (left - r.fill.quantity) (count + 1) lent (set fills count r.fill)
     calling_more places' r some room c =
         let q = r.fill.quantity in
@@ -181,7 +180,7 @@ module _ (price : ℕ) (b : Book) where
         let c = g.counted in
         (omega arith, omega arith)
 
-pub crossed_so : {price n : ℕ} {b : Book} {places : List (Place Order)} {st : State} {count : ℕ} {lent left : List Fill} →
+pub crossed_so : {price n : ℕ} {b : Book} {places : List (Option Order)} {st : State} {count : ℕ} {lent left : List Fill} →
     (Lies places st (dealt_with b.phase b.next (dealt (λ _ _. price) n b.buys b.sells) b)) × (count ≡ length (dealt (λ _ _. price) n b.buys b.sells)) × (left ≡ dealt (λ _ _. price) n b.buys b.sells ++ drop (length (dealt (λ _ _. price) n b.buys b.sells)) lent) →
     Crossed price n b places st count lent left
 crossed_so t = record { lies = t.0; counted = t.1; list = t.2 }
@@ -231,7 +230,7 @@ module _ (rule : Rule) (lawful : Lawful rule) (b : Book) (sound : Sound rule b) 
         let sold = kept_less (within Buy p) b.sells in
         (omega arith, omega arith)
 
-    pub call_room : (s : State) (places : List (Place Order)) → Lies places s b → length (dealt (λ _ _. price) n b.buys b.sells) ≤ s.capacity
+    pub call_room : (s : State) (places : List (Option Order)) → Lies places s b → length (dealt (λ _ _. price) n b.buys b.sells) ≤ s.capacity
     call_room s places l =
         let few = (fills_are_few b).of_call_resting in
         let k = ap length fills_are_these in
@@ -241,7 +240,7 @@ module _ (rule : Rule) (lawful : Lawful rule) (b : Book) (sound : Sound rule b) 
         let room = gap_left places s b l Sell in
         omega arith
 
-    pub call_accepted : (s st : State) (places : List (Place Order)) (count : ℕ) (lent left : List Fill) → refused_by s.capacity b Call (length lent) ≡ None → st.capacity ≡ s.capacity →
+    pub call_accepted : (s st : State) (places : List (Option Order)) (count : ℕ) (lent left : List Fill) → refused_by s.capacity b Call (length lent) ≡ None → st.capacity ≡ s.capacity →
         Crossed price n (dealing b) places st count lent left →
         Accepted rule b Call s places lent left (record { state = st; answer = AsCalled (record { price = price; volume = n; fills = count }) })
     call_accepted s st places count lent left may capacity w =

@@ -1,9 +1,8 @@
 -- A fill between the best buy and the best sell, by a turn with each. Assumes nothing.
-use Rattle.std.proofs.Common.{◌≡◌, ℕ, min, leb, List, [], ◌∷◌, length, Some, sym, refl, ap, ◌∙◌, ⊎_elim, arith}
+use Rattle.std.proofs.Common.{◌≡◌, ℕ, min, leb, List, [], ◌∷◌, length, Some, sym, refl, ap, ◌∙◌, ⊎_elim, arith, Option}
 use Rattle.std.proofs.lemmas.Bool.{cond-true, le-leb, cases_lt}
 use Rattle.orders.specs.declared.request.Side.TheVariants.{Buy, Sell}
 use Rattle.orders.specs.declared.order.Order.{Order}
-use Rattle.ranking.specs.declared.place.Place.{Place}
 use Rattle.plain.specs.Book.{Book}
 use Rattle.venue.specs.Questions.{ranked}
 use Rattle.ranked.specs.declared.state.Turn.{Turn}
@@ -28,7 +27,7 @@ crossing price bought sold = record {
   fill = record { buy = bought.order.number; sell = sold.order.number; buyer = bought.order.member; seller = sold.order.member; price = price; quantity = sold.tonnes };
 }
 
-module _ (price n m : ℕ) (b : Book) (sell : Order) (best : Some sell ≡ ranked 1 b.sells) (places : List (Place Order)) (bought : Turn) (buying : Turned Buy m b places bought) where
+module _ (price n m : ℕ) (b : Book) (sell : Order) (best : Some sell ≡ ranked 1 b.sells) (places : List (Option Order)) (bought : Turn) (buying : Turned Buy m b places bought) where
   -- what the turn with the best buy leaves
   abbrev pub bought_from : Book
   bought_from = holding (cut_by m bought.order buying.later) b.sells b
@@ -36,7 +35,7 @@ module _ (price n m : ℕ) (b : Book) (sell : Order) (best : Some sell ≡ ranke
   pub bought_lies : Lies places bought.state bought_from
   bought_lies = buying.lies bought_from refl refl refl refl
 
-  pub crosses : m ≡ min n sell.remaining → (places' : List (Place Order)) (sold : Turn) → Turned Sell bought.tonnes bought_from places' sold → Crossable price n b places' (crossing price bought sold)
+  pub crosses : m ≡ min n sell.remaining → (places' : List (Option Order)) (sold : Turn) → Turned Sell bought.tonnes bought_from places' sold → Crossable price n b places' (crossing price bought sold)
   crosses m-is places' sold selling =
       let first = best_some sell b.sells best in
       let same : sold.order ≡ sell = let e : sold.order ∷ selling.later ≡ sell ∷ first.0 = sym selling.are ∙ first.1 in cc in

@@ -1,5 +1,5 @@
 -- A book after an entry, by its turns. Assumes nothing.
-use Rattle.std.proofs.Common.{◌≡◌, ℕ, ◌+◌, ◌-◌, ◌≤◌, min, List, [], ◌∷◌, ◌++◌, length, drop, None, sym, refl, ap, ◌∙◌, subst, ⊎_elim, arith}
+use Rattle.std.proofs.Common.{◌≡◌, ℕ, ◌+◌, ◌-◌, ◌≤◌, min, List, [], ◌∷◌, ◌++◌, length, drop, None, sym, refl, ap, ◌∙◌, subst, ⊎_elim, arith, Option}
 use Rattle.std.proofs.lemmas.Bool.{cases_eq}
 use Rattle.orders.specs.declared.request.Side.{Side}
 use Rattle.orders.specs.declared.request.Side.TheVariants.{Buy, Sell}
@@ -8,7 +8,6 @@ use Rattle.orders.specs.declared.request.Request.TheVariants.{Enter}
 use Rattle.orders.specs.declared.order.Order.{Order}
 use Rattle.orders.specs.declared.order.Fill.{Fill}
 use Rattle.orders.specs.declared.order.Phase.TheVariants.{Dealing}
-use Rattle.ranking.specs.declared.place.Place.{Place}
 use Rattle.plain.specs.Rule.{Rule, Lawful, InSequence}
 use Rattle.plain.specs.Orders.{other, within}
 use Rattle.plain.specs.Dealing.{settled, tonnes}
@@ -80,7 +79,7 @@ module _ (rule : Rule) (b : Book) (sound : Sound rule b) where
         (ap (λ fs. settled t fs (side t b)) fills_by_turns ∙ settled_turns e.side (order e b.next) t b.next n (side t b) (live t) (sides_distinct sound t))
 
     -- what the turns come to, in the words of the plain book
-    pub turns_come_to : (number n : ℕ) (places : List (Place Order)) (st : State) (count : ℕ) (lent left : List Fill) → number ≡ b.next → n ≡ min e.quantity (reach e b) →
+    pub turns_come_to : (number n : ℕ) (places : List (Option Order)) (st : State) (count : ℕ) (lent left : List Fill) → number ≡ b.next → n ≡ min e.quantity (reach e b) →
         TurnsTaken e.side (order e number) n (number_given b) places st count lent left →
         (Lies places st (dealt_with b.phase (b.next + 1) (entry_fills Dealing e b) b)) × (count ≡ length (entry_fills Dealing e b)) × (left ≡ entry_fills Dealing e b ++ drop (length (entry_fills Dealing e b)) lent)
     turns_come_to number n places st count lent left number_is n_is taken =
@@ -91,14 +90,14 @@ module _ (rule : Rule) (b : Book) (sound : Sound rule b) where
         let book = ap (λ os. replaced t (left_by k os) (number_given b)) (side_given t b) ∙ sym turns_deal in
         (subst (Lies places st) book w.lies, w.counted ∙ ap length fills, w.list ∙ ap (λ gs. gs ++ drop (length gs) lent) fills)
 
-pub turns_fit : (places : List (Place Order)) (st : State) (b : Book) → Lies places st b → (s : Side) (o : Order) (n : ℕ) → length (by_turns s o n (side (other s) b)) ≤ st.capacity
+pub turns_fit : (places : List (Option Order)) (st : State) (b : Book) → Lies places st b → (s : Side) (o : Order) (n : ℕ) → length (by_turns s o n (side (other s) b)) ≤ st.capacity
 turns_fit places st b l s o n =
     let few = turns_few s o n (side (other s) b) in
     let counts = l.counts (other s) in
     let room = gap_left places st b l s in
     omega arith
 
-pub entry_accepted : (rule : Rule) (b : Book) (e : Entry) (fs : List Fill) (s : State) (places : List (Place Order)) (lent left : List Fill) (d : Done) →
+pub entry_accepted : (rule : Rule) (b : Book) (e : Entry) (fs : List Fill) (s : State) (places : List (Option Order)) (lent left : List Fill) (d : Done) →
     entry_fills b.phase e b ≡ fs → refused_by s.capacity b (Enter e) (length lent) ≡ None → d.answer ≡ (entered rule e b fs).answer → left ≡ fs ++ drop (length fs) lent →
     Lies places d.state (entered rule e b fs).book → d.state.capacity ≡ s.capacity → Accepted rule b (Enter e) s places lent left d
 entry_accepted rule b e fs s places lent left d are may answered list lies capacity = record {

@@ -1,5 +1,5 @@
 -- What a book refuses of an entry, told by its state. Assumes nothing.
-use Rattle.std.proofs.Common.{◌≡◌, ℕ, ◌+◌, ◌-◌, ◌<◌, ◌≤◌, Bool, true, false, ltb, leb, List, length, drop, Some, sym, refl, ap, ◌∙◌, arith, length-append}
+use Rattle.std.proofs.Common.{◌≡◌, ℕ, ◌+◌, ◌-◌, ◌<◌, ◌≤◌, Bool, true, false, ltb, leb, List, length, drop, Some, sym, refl, ap, ◌∙◌, arith, length-append, Option}
 use Rattle.std.proofs.lemmas.Bool.{le-ltb, lt-ltb, le-leb, lt-leb}
 use Rattle.orders.specs.declared.request.Side.{Side}
 use Rattle.orders.specs.declared.request.Side.TheVariants.{Buy, Sell}
@@ -7,7 +7,6 @@ use Rattle.orders.specs.declared.entry.Entry.{Entry}
 use Rattle.orders.specs.declared.request.Request.TheVariants.{Enter}
 use Rattle.orders.specs.declared.order.Order.{Order}
 use Rattle.orders.specs.declared.refusal.Cause.TheVariants.{BookFull, NumbersSpent, BelowMinimum}
-use Rattle.ranking.specs.declared.place.Place.{Place}
 use Rattle.plain.specs.Orders.{keep, total, within, other}
 use Rattle.plain.specs.Book.{Book, side, resting, reach}
 use Rattle.orders.specs.Causes.{first, when}
@@ -17,7 +16,7 @@ use Rattle.lineup.proofs.Worth.{worth_from}
 use Rattle.lineup.specs.Layout.{seen, worth}
 use Rattle.lineup.specs.Lying.{Lies, count}
 
-module _ (places : List (Place Order)) (s : State) (b : Book) (l : Lies places s b) where
+module _ (places : List (Option Order)) (s : State) (b : Book) (l : Lies places s b) where
   pub reach_is : (e : Entry) (u t : Side) (limit start : ℕ) → u ≡ e.side → t ≡ other u → limit ≡ e.price → start ≡ s.capacity - count t s →
       worth u limit (drop start (seen t places)) ≡ reach e b
   reach_is e u t limit start own theirs price is =

@@ -1,11 +1,9 @@
 -- A book that is opened. Assumes nothing.
-use Rattle.std.proofs.Common.{◌≡◌, ℕ, ◌≤◌, true, List, length, replicate, sym, ap, ◌∙◌, append-nil, arith}
+use Rattle.std.proofs.Common.{◌≡◌, ℕ, ◌≤◌, true, List, length, replicate, sym, ap, ◌∙◌, append-nil, arith, Option, None}
 use lib.ListN.{length-replicate}
 use Rattle.orders.specs.declared.request.Side.TheVariants.{Buy, Sell}
 use Rattle.orders.specs.declared.order.Order.{Order}
 use Rattle.orders.specs.declared.order.Phase.TheVariants.{Gathering}
-use Rattle.ranking.specs.declared.place.Place.{Place}
-use Rattle.ranking.specs.declared.place.Place.TheVariants.{Vacant}
 use Rattle.plain.specs.Rule.{Rule, Lawful}
 use Rattle.plain.specs.Book.{side, fresh}
 use Rattle.lineup.specs.declared.state.State.{State}
@@ -16,15 +14,15 @@ use Rattle.venue.specs.Books.{Opened}
 use Rattle.ranked.specs.Standing.{Stands}
 
 -- a book that is opened
-pub opened : (rule : Rule) → Lawful rule → (capacity : ℕ) (places : List (Place Order)) (s : State) → s.phase ≡ Gathering → s.next ≡ 1 → s.buys ≡ 0 → s.sells ≡ 0 → s.capacity ≡ capacity →
-    1 ≤ s.capacity → s.capacity ≤ 1024 → s.is_fresh ≡ true → places ≡ replicate s.capacity Vacant → Opened rule capacity (book_setup rule s.capacity) (Stands rule places s)
+pub opened : (rule : Rule) → Lawful rule → (capacity : ℕ) (places : List (Option Order)) (s : State) → s.phase ≡ Gathering → s.next ≡ 1 → s.buys ≡ 0 → s.sells ≡ 0 → s.capacity ≡ capacity →
+    1 ≤ s.capacity → s.capacity ≤ 1024 → s.is_fresh ≡ true → places ≡ replicate s.capacity None → Opened rule capacity (book_setup rule s.capacity) (Stands rule places s)
 opened rule lawful capacity places s phase next buys sells size low high new vacant = record {
   fresh = record {
     lies = record {
       gap = s.capacity;
-      laid = both_see Sell places s.capacity fresh (vacant ∙ sym (append-nil (replicate s.capacity Vacant)));
+      laid = both_see Sell places s.capacity fresh (vacant ∙ sym (append-nil (replicate s.capacity None)));
       counts = on_both (λ t. count t s ≡ length (side t fresh)) Buy buys sells;
-      size = sym (ap length vacant ∙ length-replicate s.capacity Vacant);
+      size = sym (ap length vacant ∙ length-replicate s.capacity None);
       small = high;
       phase_is = phase;
       next_is = next;

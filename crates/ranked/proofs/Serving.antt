@@ -1,9 +1,8 @@
 -- A book that stands after a tape, and a request that it handles. Assumes nothing.
-use Rattle.std.proofs.Common.{◌≡◌, ℕ, false, List, [], ◌∷◌, ◌++◌, length, None, Ok, sym, refl, ap, ◌∙◌, subst}
+use Rattle.std.proofs.Common.{◌≡◌, ℕ, false, List, [], ◌∷◌, ◌++◌, length, None, Ok, sym, refl, ap, ◌∙◌, subst, Option}
 use Rattle.orders.specs.declared.request.Request.{Request}
 use Rattle.orders.specs.declared.order.Order.{Order}
 use Rattle.orders.specs.declared.order.Fill.{Fill}
-use Rattle.ranking.specs.declared.place.Place.{Place}
 use Rattle.plain.specs.Rule.{Rule}
 use Rattle.plain.specs.Book.{Book, Tape, from, after, fresh, reply}
 use Rattle.plain.specs.Gate.{refused_by, AdmittedFrom}
@@ -25,7 +24,7 @@ not_empty : (t : Tape) (q : Request) → is_empty (t ++ (q ∷ [])) ≡ false
 not_empty [] q = refl
 not_empty (x ∷ t) q = refl
 
-module _ (rule : Rule) (t : Tape) (q : Request) (s : State) (places places' : List (Place Order)) (lent left : List Fill) (st : Stands rule places s t) where
+module _ (rule : Rule) (t : Tape) (q : Request) (s : State) (places places' : List (Option Order)) (lent left : List Fill) (st : Stands rule places s t) where
   pub served_ok : (d : Done) (s' : State) → Accepted rule (after rule t) q s places' lent left d → s'.buys ≡ d.state.buys → s'.sells ≡ d.state.sells → s'.capacity ≡ d.state.capacity →
       s'.phase ≡ d.state.phase → s'.next ≡ d.state.next → s'.is_fresh ≡ false →
       Served (book_setup rule s.capacity) (Stands rule places' s') t q lent left (Ok d.answer)

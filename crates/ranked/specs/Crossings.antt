@@ -2,7 +2,6 @@
 use Rattle.std.specs.Prelude.{◌≡◌, ℕ, min, List, ◌∷◌, ◌++◌, length, drop, Some, None, Option}
 use Rattle.orders.specs.declared.order.Order.{Order}
 use Rattle.orders.specs.declared.order.Fill.{Fill}
-use Rattle.ranking.specs.declared.place.Place.{Place}
 use Rattle.plain.specs.Dealing.{fill, dealt}
 use Rattle.plain.specs.Book.{Book, dealt_with}
 use Rattle.lineup.specs.declared.state.State.{State}
@@ -15,7 +14,7 @@ abbrev pub holding : List Order → List Order → Book → Book
 holding buys sells b = record { phase = b.phase; next = b.next; buys = buys; sells = sells }
 
 -- the best buy and the best sell dealt the least of n tonnes and what remains of them
-pub record Crossable (price n : ℕ) (b : Book) (places : List (Place Order)) (r : Crossing) : Type 0 where
+pub record Crossable (price n : ℕ) (b : Book) (places : List (Option Order)) (r : Crossing) : Type 0 where
   pub buy : Order
   pub sell : Order
   pub later_buys : List Order
@@ -26,12 +25,12 @@ pub record Crossable (price n : ℕ) (b : Book) (places : List (Place Order)) (r
   pub fill_is : r.fill ≡ fill (λ _ _. price) buy sell r.fill.quantity
   pub lies : Lies places r.state (holding (cut_by r.fill.quantity buy later_buys) (cut_by r.fill.quantity sell later_sells) b)
 
-abbrev pub CrossTaken : ℕ → ℕ → Book → List (Place Order) → Option Crossing → Type 0
+abbrev pub CrossTaken : ℕ → ℕ → Book → List (Option Order) → Option Crossing → Type 0
 CrossTaken price n b places None = min (length b.buys) (length b.sells) ≡ 0
 CrossTaken price n b places (Some r) = Crossable price n b places r
 
 -- what came of a call's fills at a price: the book, how many fills, and the fill list
-pub record Crossed (price n : ℕ) (b : Book) (places : List (Place Order)) (st : State) (count : ℕ) (lent left : List Fill) : Type 0 where
+pub record Crossed (price n : ℕ) (b : Book) (places : List (Option Order)) (st : State) (count : ℕ) (lent left : List Fill) : Type 0 where
   pub lies : Lies places st (dealt_with b.phase b.next (dealt (λ _ _. price) n b.buys b.sells) b)
   pub counted : count ≡ length (dealt (λ _ _. price) n b.buys b.sells)
   pub list : left ≡ dealt (λ _ _. price) n b.buys b.sells ++ drop (length (dealt (λ _ _. price) n b.buys b.sells)) lent

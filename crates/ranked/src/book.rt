@@ -1,5 +1,4 @@
-ghost use Rattle.std.specs.Prelude.{◌≡◌, length, replicate, MatchResult};
-ghost use Rattle.ranking.specs.declared.place.Place.TheVariants.{Vacant};
+ghost use Rattle.std.specs.Prelude.{◌≡◌, length, replicate, MatchResult, None};
 ghost use Rattle.venue.specs.Meaning.{book_setup};
 ghost use Rattle.venue.specs.Books.{Opened, HandedBack};
 ghost use Rattle.ranked.specs.Standing.{Stands};
@@ -22,7 +21,7 @@ pub struct Ranked<L, R> {
 // Makes every place vacant.
 fn vacate<L: Places<Record = Order>>(list: &mut L, len: usize)
     requires { len ≡ length (L.Places.contents list.old) }
-    ensures { L.Places.contents list.new ≡ replicate len Vacant }
+    ensures { L.Places.contents list.new ≡ replicate len None }
 {
     for i in 0..len {
         list.vacate(i);

@@ -1,8 +1,7 @@
-ghost use Rattle.std.specs.Prelude.{◌≡◌, List, IfOk};
+ghost use Rattle.std.specs.Prelude.{◌≡◌, List, IfOk, Option};
 ghost use Rattle.orders.specs.declared.request.Request.{Request};
 ghost use Rattle.orders.specs.declared.order.Order.{Order};
 ghost use Rattle.orders.specs.declared.order.Fill.{Fill};
-ghost use Rattle.ranking.specs.declared.place.Place.{Place};
 ghost use Rattle.plain.specs.Rule.{Rule};
 ghost use Rattle.plain.specs.Book.{Tape, after};
 ghost use Rattle.venue.specs.Meaning.{Served, book_setup};
@@ -28,7 +27,7 @@ const BOTTOM: u8 = 0;
 // Keeps what a request came to, and answers it.
 fn close(state: &mut State, outcome: Result<Done, Cause>) -> Result<Answer, Refusal>
     ensures capacity { IfOk outcome (λ d. d.state.capacity ≡ state.old.capacity) → state.new.capacity ≡ state.old.capacity }
-    ensures served { (rule : Rule) (t : Tape) (q : Request) (places left-places : List (Place Order)) (lent left : List Fill) → Stands rule places state.old t → Handled rule (after rule t) q state.old places left-places lent left outcome → Served (book_setup rule state.old.capacity) (Stands rule left-places state.new) t q lent left result }
+    ensures served { (rule : Rule) (t : Tape) (q : Request) (places left-places : List (Option Order)) (lent left : List Fill) → Stands rule places state.old t → Handled rule (after rule t) q state.old places left-places lent left outcome → Served (book_setup rule state.old.capacity) (Stands rule left-places state.new) t q lent left result }
 {
     match outcome {
         Ok(done) => {

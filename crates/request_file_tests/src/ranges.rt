@@ -3,7 +3,7 @@ use orders::row::{CancelRow, EntryRow, Row};
 
 // The number of the refusal that a row gives, or 0.
 fn refusal(row: &Row) -> u8 {
-    match Request::from_row(row) {
+    match Request::try_from(row) {
         Ok(_) => 0,
         Err(cause) => cause.number(),
     }

@@ -1,7 +1,5 @@
 -- The lines of a settlement. Assumes nothing.
-use Rattle.std.specs.Prelude.{◌≡◌, ℕ, ◌+◌, Bool, cond, ◌&&◌, List, [], ◌∷◌, ◌++◌, map, ◌==◌}
-use Rattle.ranking.specs.declared.place.Place.{Place}
-use Rattle.ranking.specs.declared.place.Place.TheVariants.{Vacant, Holding}
+use Rattle.std.specs.Prelude.{◌≡◌, ℕ, ◌+◌, Bool, cond, ◌&&◌, List, [], ◌∷◌, ◌++◌, map, ◌==◌, Option, None, Some}
 use Rattle.ledger.specs.declared.row.Row.{Row}
 use Rattle.ledger.specs.declared.standing.Standing.{Standing}
 use Rattle.ledger.specs.Rows.{SumOfRows}
@@ -18,9 +16,9 @@ is_idle r = r.bought == 0 && r.sold == 0
 abbrev pub member_line : ℕ → Standing → List Line
 member_line rank s = cond (is_idle s.row) [] (Member rank s ∷ [])
 
-abbrev pub place_line : ℕ → Place Standing → List Line
-place_line rank Vacant = []
-place_line rank (Holding s) = member_line rank s
+abbrev pub place_line : ℕ → Option Standing → List Line
+place_line rank None = []
+place_line rank (Some s) = member_line rank s
 
 -- the lines of members, ranked on from a number: an idle member has his rank too
 abbrev pub member_lines : ℕ → List Standing → List Line

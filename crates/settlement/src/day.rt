@@ -16,7 +16,6 @@ use orders::refusal::Cause;
 use orders::request::Request;
 use piles::day::pile_over;
 use ranked::book::open;
-use ranking::place::Place;
 use ranking::places::{Lent, Places};
 use ranking::rules::Time;
 use settling::fault::Noted;
@@ -76,8 +75,8 @@ fn settle_day(
     requires { ledger.old.rows ≡ replicate 64 nothing }
     ensures { IfOk result (λ notes. Clear (day_setup time 8) records.now ledger.new.rows notes.items) }
 {
-    let mut shelf_places = [Place::Vacant; PLACES];
-    let mut ranked_places = [Place::Vacant; PLACES];
+    let mut shelf_places = [None; PLACES];
+    let mut ranked_places = [None; PLACES];
     let list = Lent::over(&mut shelf_places);
     let other = Lent::over(&mut ranked_places);
     settle_over(heap, list, other, ledger, records).unwrap()

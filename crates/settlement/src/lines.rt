@@ -6,7 +6,6 @@ use crate::line::Line;
 use ledger::row::Row;
 use ledger::standing::{Standing, rank_members};
 use ledger::totals::Ledger;
-use ranking::place::Place;
 use ranking::places::Places;
 use settling::fault::Noted;
 use std::alloc::{AllocError, Global};
@@ -19,16 +18,16 @@ fn is_idle(row: &Row) -> bool
 }
 
 // Adds the line of a place of the standing, unless its member is idle.
-fn push_place(lines: &mut Vec<Line>, rank: usize, place: Place<Standing>) -> Result<(), AllocError>
+fn push_place(lines: &mut Vec<Line>, rank: usize, place: Option<Standing>) -> Result<(), AllocError>
     ensures { OnOk result (lines.new.items ≡ lines.old.items ++ place_line rank place) }
 {
     match place {
-        Place::Holding(standing) => {
+        Some(standing) => {
             if !is_idle(&standing.row) {
                 lines.push(Line::Member(rank, standing))?;
             }
         }
-        Place::Vacant => {}
+        None => {}
     }
     Ok(())
 }

@@ -1,5 +1,5 @@
 -- What an entry deals in the places is what the plain book deals. Assumes nothing.
-use Rattle.std.proofs.Common.{◌≡◌, ℕ, ◌+◌, ◌≤◌, min, Bool, false, List, length, None, Ok, sym, refl, ap, ◌∙◌, subst, arith}
+use Rattle.std.proofs.Common.{◌≡◌, ℕ, ◌+◌, ◌≤◌, min, Bool, false, List, length, None, Ok, sym, refl, ap, ◌∙◌, subst, arith, Option}
 use Rattle.std.proofs.lemmas.Bool.{leb-false, lt-leb}
 use Rattle.orders.specs.declared.request.Side.TheVariants.{Buy, Sell}
 use Rattle.orders.specs.declared.entry.Entry.{Entry}
@@ -16,7 +16,6 @@ use Rattle.plain.proofs.Capacity.{always_within_capacity, thinned_rest}
 use Rattle.plain.proofs.StaysSound.{always_sound, next_is_new}
 use Rattle.plain.proofs.Thinned.{settled_thins}
 use Rattle.venue.specs.Meaning.{Served, book_setup}
-use Rattle.ranking.specs.declared.place.Place.{Place}
 use Rattle.matching.specs.declared.dealing.Deal.TheVariants.{Entry as EntryDeal}
 use Rattle.matching.specs.Weights.{held_weight, SameOrders}
 use Rattle.shelf.specs.HeldGate.{is_full, entry_refusal}
@@ -30,7 +29,7 @@ use Rattle.matching.proofs.RunsOut.{run_length, runs_out}
 use Rattle.shelf.proofs.ServedEntry.{DealtIn, gathered, entry_so}
 
 -- fills leave a vacant place where there was one
-still_room : (b : Book) (ps qs : List (Place Order)) (phase : Phase) (next : ℕ) (fs : List Fill) → SameOrders ps b → SameOrders qs (dealt_with phase next fs b) → length qs ≡ length ps →
+still_room : (b : Book) (ps qs : List (Option Order)) (phase : Phase) (next : ℕ) (fs : List Fill) → SameOrders ps b → SameOrders qs (dealt_with phase next fs b) → length qs ≡ length ps →
     is_full ps ≡ false → is_full qs ≡ false
 still_room b ps qs phase next fs before after same room =
     let fewer = thinned_rest phase next b (settled_thins Buy fs b.buys) (settled_thins Sell fs b.sells) in
@@ -39,12 +38,12 @@ still_room b ps qs phase next fs before after same room =
     (omega (arith, before (λ _. 1), after (λ _. 1), weight_ones (resting b), weight_ones (resting (dealt_with phase next fs b))))
 
 -- as many places after it as before
-pub now_length : (rule : Rule) (phase : Phase) (o : Order) (before : List (Place Order)) (lent : List Fill) (ps : List (Place Order)) (list : List Fill) (r : ℕ × ℕ) →
+pub now_length : (rule : Rule) (phase : Phase) (o : Order) (before : List (Option Order)) (lent : List Fill) (ps : List (Option Order)) (list : List Fill) (r : ℕ × ℕ) →
     DealtNow rule phase o before lent ps list r → length ps ≡ length before
 now_length rule Gathering o before lent ps list r d = ap length d.0
 now_length rule Dealing o before lent ps list r d = run_length d.run_to.run
 
-module _ {rule : Rule} {ps : List (Place Order)} {phase : Phase} {next : ℕ} {is_fresh : Bool} (t : Tape) (stands : Stands rule ps phase next is_fresh t) (e : Entry) (lent list : List Fill) (admits : None ≡ entry_refusal ps phase next e (length lent)) (qs : List (Place Order)) (r : ℕ × ℕ) where
+module _ {rule : Rule} {ps : List (Option Order)} {phase : Phase} {next : ℕ} {is_fresh : Bool} (t : Tape) (stands : Stands rule ps phase next is_fresh t) (e : Entry) (lent list : List Fill) (admits : None ≡ entry_refusal ps phase next e (length lent)) (qs : List (Option Order)) (r : ℕ × ℕ) where
   abbrev b : Book
   b = after rule t
 
@@ -93,7 +92,7 @@ module _ {rule : Rule} {ps : List (Place Order)} {phase : Phase} {next : ℕ} {i
   by_phase Dealing is d = deals is d
 
   -- the entry is served
-  pub entry_dealt : DealtNow rule phase o ps lent qs list r → (rs : List (Place Order)) (a : Answer) → Laid e.life (left_of e next r.1) qs rs →
+  pub entry_dealt : DealtNow rule phase o ps lent qs list r → (rs : List (Option Order)) (a : Answer) → Laid e.life (left_of e next r.1) qs rs →
       a ≡ entry_answer e next (min r.0 4294967295) r.1 → Served (book_setup rule (length ps)) (Stands rule rs phase (next + 1) false) t (Enter e) lent list (Ok a)
   entry_dealt d rs a laid answers =
       let in_all = by_phase phase refl d in

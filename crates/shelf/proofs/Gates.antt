@@ -13,14 +13,13 @@ use Rattle.plain.specs.Book.{Book, resting}
 use Rattle.orders.specs.Causes.{first, when}
 use Rattle.plain.specs.Gate.{unreached, refused_by}
 use Rattle.plain.specs.Sound.{Sound}
-use Rattle.ranking.specs.declared.place.Place.{Place}
 use Rattle.matching.specs.Scans.{opposite, tonnes_if}
 use Rattle.shelf.specs.HeldGate.{is_full, falls_short, entry_refusal}
 use Rattle.shelf.specs.Stands.{Shows}
 use Rattle.matching.proofs.Shown.{held_count}
 use Rattle.matching.proofs.Opposite.{opposite_weight}
 
-module _ {rule : Rule} {ps : List (Place Order)} {phase : Phase} {next : ℕ} (b : Book) (sound : Sound rule b) (shows : Shows ps phase next b) where
+module _ {rule : Rule} {ps : List (Option Order)} {phase : Phase} {next : ℕ} (b : Book) (sound : Sound rule b) (shows : Shows ps phase next b) where
   full_same : is_full ps ≡ leb (length ps) (length (resting b))
   full_same = ap (leb (length ps)) (held_count ps b shows.orders)
 
@@ -43,11 +42,11 @@ none_when : (t : Bool) (c : Cause) → when t c ≡ None → t ≡ false
 none_when true c h = absurd (some_none h)
 none_when false c h = refl
 
-pub record Open (ps : List (Place Order)) (next : ℕ) : Type 0 where
+pub record Open (ps : List (Option Order)) (next : ℕ) : Type 0 where
   pub room : is_full ps ≡ false
   pub numbers : next ≤ 999999
 
-pub admits_open : (ps : List (Place Order)) (phase : Phase) (next : ℕ) (e : Entry) (n : ℕ) → None ≡ entry_refusal ps phase next e n → Open ps next
+pub admits_open : (ps : List (Option Order)) (phase : Phase) (next : ℕ) (e : Entry) (n : ℕ) → None ≡ entry_refusal ps phase next e n → Open ps next
 admits_open ps phase next e n h =
     let early_on = (none_first _ _ (none_first (when (ltb n (length ps)) FillListShort) _ (sym h)).1).1 in
     let full = none_first (when (is_full ps) BookFull) _ early_on in

@@ -1,5 +1,5 @@
 -- What an entry leaves rests in one more place. Assumes nothing.
-use Rattle.std.proofs.Common.{◌≡◌, ℕ, ◌+◌, ◌-◌, ◌<◌, ◌≤◌, Bool, true, false, cond, ◌&&◌, ltb, List, [], ◌∷◌, length, get_or, set, None, sym, refl, ap, ◌∙◌, arith, length-set}
+use Rattle.std.proofs.Common.{◌≡◌, ℕ, ◌+◌, ◌-◌, ◌<◌, ◌≤◌, Bool, true, false, cond, ◌&&◌, ltb, List, [], ◌∷◌, length, get_or, set, None, sym, refl, ap, ◌∙◌, arith, length-set, Option, Some}
 use Rattle.std.proofs.lemmas.Bool.{true≢false, lt-ltb, le-leb, lt-leb, and_from, cond-true}
 use Rattle.orders.specs.declared.request.Side.{Side}
 use Rattle.orders.specs.declared.request.Side.TheVariants.{Buy, Sell}
@@ -13,8 +13,6 @@ use Rattle.plain.specs.Dealing.{settled}
 use Rattle.plain.specs.Book.{Book, resting, rests, put, entered}
 use Rattle.plain.specs.Sound.{AllLive}
 use Rattle.plain.proofs.Rested.{left_tonnes, left_order, dealt_book}
-use Rattle.ranking.specs.declared.place.Place.{Place}
-use Rattle.ranking.specs.declared.place.Place.TheVariants.{Vacant, Holding}
 use Rattle.matching.specs.Weights.{Weight, weight, place_weight, held_weight}
 use Rattle.matching.specs.Scans.{VacantIn}
 use Rattle.shelf.specs.HeldGate.{is_full}
@@ -23,17 +21,17 @@ use Rattle.shelf.specs.Stands.{Shows}
 use Rattle.matching.proofs.Held.{held_set, held_all, held_room}
 use Rattle.matching.proofs.Weighed.{weight_append, weight_placed}
 
-module _ (life : Life) (o : Order) (ps : List (Place Order)) where
-  pub laid_in : (k : ℕ) → rests life ≡ true → 0 < o.remaining → k < length ps → get_or ps k Vacant ≡ Vacant → Laid life o ps (set ps k (Holding o))
+module _ (life : Life) (o : Order) (ps : List (Option Order)) where
+  pub laid_in : (k : ℕ) → rests life ≡ true → 0 < o.remaining → k < length ps → get_or ps k None ≡ None → Laid life o ps (set ps k (Some o))
   laid_in k stays some h vacant =
       record {
-        same_length = length-set ps k (Holding o);
+        same_length = length-set ps k (Some o);
         orders = λ _ w.
-            omega (arith, held_set w ps k (Holding o) h, ap (place_weight w) vacant, cond-true (rests life && ltb 0 o.remaining) (w o) 0 (and_from _ _ stays (lt-ltb 0 o.remaining some)));
+            omega (arith, held_set w ps k (Some o) h, ap (place_weight w) vacant, cond-true (rests life && ltb 0 o.remaining) (w o) 0 (and_from _ _ stays (lt-ltb 0 o.remaining some)));
       }
 
   -- where a place is vacant the list is not full
-  pub not_full : (k : ℕ) → k < length ps → get_or ps k Vacant ≡ Vacant → is_full ps ≡ true → ⊥
+  pub not_full : (k : ℕ) → k < length ps → get_or ps k None ≡ None → is_full ps ≡ true → ⊥
   not_full k h vacant full = true≢false (sym full ∙ lt-leb _ _ (held_room ps k h vacant))
 
   pub laid_full : VacantIn ps (length ps) None → Laid life o ps ps
@@ -69,7 +67,7 @@ put_next rule o true Sell b = refl
 put_next rule o false s b = refl
 
 -- places that have what fills leave of the book, with what is left of the entry laid in them, show the book after it
-pub entered_shows : (rule : Rule) (b : Book) (e : Entry) (fs : List Fill) (ps qs : List (Place Order)) (phase : Phase) (next left : ℕ) →
+pub entered_shows : (rule : Rule) (b : Book) (e : Entry) (fs : List Fill) (ps qs : List (Option Order)) (phase : Phase) (next left : ℕ) →
     ((w : Weight) → held_weight w ps ≡ weight w (resting (dealt_book b fs))) → left ≡ left_tonnes e fs → phase ≡ b.phase → next ≡ b.next →
     is_full ps ≡ false → Laid e.life (left_of e next left) ps qs → Shows qs phase (next + 1) (entered rule e b fs).book
 entered_shows rule b e fs ps qs phase next left dealt left_is phase_is next_is room laid =

@@ -9,7 +9,6 @@ use Rattle.plain.specs.Book.{Book, side}
 use Rattle.plain.specs.Sound.{Sound}
 use Rattle.plain.proofs.Members.{live_one, ahead_of_one}
 use Rattle.venue.specs.Questions.{ranked}
-use Rattle.ranking.specs.declared.place.Place.{Place}
 use Rattle.matching.specs.Weights.{weight, held_weight, SameOrders}
 use Rattle.matching.specs.Scans.{same_side, one_if, only_side, HasRank, RankedIn}
 use Rattle.matching.proofs.Alike.{same_side_lem, side_itself}
@@ -47,7 +46,7 @@ module _ (rule : Rule) (law : Lawful rule) where
       let rest = rank_is (suc k) o xs s.1 h in
       (Memᴰ.tail rest.0, omega (arith, rest.1, cond-true {A = ℕ} (rule x o) 1 0 (ahead_of_one rule x xs s.0 rest.0)))
 
-module _ {rule : Rule} (law : Lawful rule) (ps : List (Place Order)) (b : Book) (sound : Sound rule b) (orders : SameOrders ps b) where
+module _ {rule : Rule} (law : Lawful rule) (ps : List (Option Order)) (b : Book) (sound : Sound rule b) (orders : SameOrders ps b) where
   some_ranked : (t : Side) (rank : ℕ) (o : Order) → HeldAt ps o → HasRank rule t rank ps o → Some o ≡ ranked rank (side t b)
   some_ranked t rank o held has =
       let count = weight (one_if (λ y. rule y o)) (side o.side b) in

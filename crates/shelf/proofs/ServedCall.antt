@@ -1,5 +1,5 @@
 -- A call that is admitted, from what its fills leave in the places. Assumes nothing.
-use Rattle.std.proofs.Common.{◌≡◌, ℕ, ◌≤◌, min, Bool, false, ltb, List, length, Some, None, Ok, Err, sym, refl, ap, ◌∙◌, subst, le_refl, arith}
+use Rattle.std.proofs.Common.{◌≡◌, ℕ, ◌≤◌, min, Bool, false, ltb, List, length, Some, None, Ok, Err, sym, refl, ap, ◌∙◌, subst, le_refl, arith, Option}
 use Rattle.orders.specs.declared.request.Request.TheVariants.{Call}
 use Rattle.orders.specs.declared.order.Order.{Order}
 use Rattle.orders.specs.declared.order.Fill.{Fill}
@@ -17,7 +17,6 @@ use Rattle.plain.specs.Gate.{is_dealing, refused_by}
 use Rattle.plain.proofs.Capacity.{always_within_capacity}
 use Rattle.plain.proofs.StaysSound.{always_sound}
 use Rattle.venue.specs.Meaning.{Served, book_setup}
-use Rattle.ranking.specs.declared.place.Place.{Place}
 use Rattle.matching.specs.declared.dealing.Deal.TheVariants.{Call as CallDeal}
 use Rattle.matching.specs.declared.quote.Quote.{Quote}
 use Rattle.shelf.specs.HeldGate.{call_refusal}
@@ -32,7 +31,7 @@ use Rattle.shelf.proofs.Serving.{served_so, served_not}
 abbrev pub call_answer : ℕ → ℕ → ℕ → Answer
 call_answer price volume count = Called (record { price = price; volume = volume; fills = count })
 
-module _ {rule : Rule} {ps : List (Place Order)} {phase : Phase} {next : ℕ} {is_fresh : Bool} (t : Tape) (stands : Stands rule ps phase next is_fresh t) (lent : List Fill) where
+module _ {rule : Rule} {ps : List (Option Order)} {phase : Phase} {next : ℕ} {is_fresh : Bool} (t : Tape) (stands : Stands rule ps phase next is_fresh t) (lent : List Fill) where
   abbrev b : Book
   b = after rule t
 
@@ -43,7 +42,7 @@ module _ {rule : Rule} {ps : List (Place Order)} {phase : Phase} {next : ℕ} {i
       Served (book_setup rule (length ps)) (Stands rule ps phase next is_fresh) t Call lent lent (Err (record { cause = c; height = Some 0 }))
   call_not c h = served_not t stands Call lent c (sym (h ∙ refused))
 
-  module _ (admits : None ≡ call_refusal ps phase (length lent)) (qs : List (Place Order)) (list : List Fill) (r : ℕ × ℕ) where
+  module _ (admits : None ≡ call_refusal ps phase (length lent)) (qs : List (Option Order)) (list : List Fill) (r : ℕ × ℕ) where
     admitted : refused_by (length ps) b Call (length lent) ≡ None
     admitted = sym (admits ∙ refused)
 

@@ -1,5 +1,5 @@
 -- An entry that is admitted, from what its fills and its rest leave in the places. Assumes nothing.
-use Rattle.std.proofs.Common.{◌≡◌, ℕ, ◌+◌, ◌-◌, ◌≤◌, Bool, false, List, [], ◌++◌, length, drop, Some, None, Ok, Err, sym, refl, ap, ◌∙◌, subst, arith}
+use Rattle.std.proofs.Common.{◌≡◌, ℕ, ◌+◌, ◌-◌, ◌≤◌, Bool, false, List, [], ◌++◌, length, drop, Some, None, Ok, Err, sym, refl, ap, ◌∙◌, subst, arith, Option}
 use Rattle.orders.specs.declared.request.Side.TheVariants.{Buy, Sell}
 use Rattle.orders.specs.declared.entry.Entry.{Entry}
 use Rattle.orders.specs.declared.request.Request.TheVariants.{Enter}
@@ -17,7 +17,6 @@ use Rattle.plain.specs.Sound.{Sound}
 use Rattle.plain.proofs.Rested.{left_tonnes, dealt_book}
 use Rattle.plain.proofs.StaysSound.{always_sound}
 use Rattle.venue.specs.Meaning.{Served, book_setup}
-use Rattle.ranking.specs.declared.place.Place.{Place}
 use Rattle.matching.specs.Weights.{Weight, weight, held_weight}
 use Rattle.shelf.specs.HeldGate.{is_full, entry_refusal}
 use Rattle.shelf.specs.Entering.{left_of, Laid, entry_answer}
@@ -27,7 +26,7 @@ use Rattle.shelf.proofs.Laying.{settled_none, entered_shows}
 use Rattle.shelf.proofs.Serving.{served_so, served_not}
 
 -- what the fills of an entry leave: the places, how many tonnes of it, and the list
-pub record DealtIn (b : Book) (e : Entry) (fs : List Fill) (ps qs : List (Place Order)) (lent list : List Fill) (count left : ℕ) : Type 0 where
+pub record DealtIn (b : Book) (e : Entry) (fs : List Fill) (ps qs : List (Option Order)) (lent list : List Fill) (count left : ℕ) : Type 0 where
   pub fills_are : fs ≡ entry_fills b.phase e b
   pub orders : (w : Weight) → held_weight w qs ≡ weight w (resting (dealt_book b fs))
   pub same_length : length qs ≡ length ps
@@ -38,7 +37,7 @@ pub record DealtIn (b : Book) (e : Entry) (fs : List Fill) (ps qs : List (Place 
   pub list_is : list ≡ fs ++ drop (length fs) lent
 
 -- while gathering there are none
-pub gathered : {rule : Rule} {ps : List (Place Order)} {phase : Phase} {next : ℕ} (b : Book) → Sound rule b → Shows ps phase next b → phase ≡ Gathering →
+pub gathered : {rule : Rule} {ps : List (Option Order)} {phase : Phase} {next : ℕ} (b : Book) → Sound rule b → Shows ps phase next b → phase ≡ Gathering →
     is_full ps ≡ false → (e : Entry) (lent : List Fill) → DealtIn b e [] ps ps lent lent 0 e.quantity
 gathered b sound shows gathers room e lent =
     record {
@@ -52,7 +51,7 @@ gathered b sound shows gathers room e lent =
       list_is = refl;
     }
 
-module _ {rule : Rule} {ps : List (Place Order)} {phase : Phase} {next : ℕ} {is_fresh : Bool} (t : Tape) (stands : Stands rule ps phase next is_fresh t) (e : Entry) (lent : List Fill) where
+module _ {rule : Rule} {ps : List (Option Order)} {phase : Phase} {next : ℕ} {is_fresh : Bool} (t : Tape) (stands : Stands rule ps phase next is_fresh t) (e : Entry) (lent : List Fill) where
   refused : entry_refusal ps phase next e (length lent) ≡ refused_by (length ps) (after rule t) (Enter e) (length lent)
   refused = entry_refused (after rule t) (always_sound rule stands.lawful t) stands.shows e (length lent)
 
@@ -66,7 +65,7 @@ module _ {rule : Rule} {ps : List (Place Order)} {phase : Phase} {next : ℕ} {i
       let dealt : e.quantity - left_tonnes e fs ≡ tonnes fs = omega arith in
       rw (next_is, left_is, count_is, dealt)
 
-  pub entry_so : (fs list : List Fill) (qs rs : List (Place Order)) (count left : ℕ) (a : Answer) → None ≡ entry_refusal ps phase next e (length lent) →
+  pub entry_so : (fs list : List Fill) (qs rs : List (Option Order)) (count left : ℕ) (a : Answer) → None ≡ entry_refusal ps phase next e (length lent) →
       DealtIn (after rule t) e fs ps qs lent list count left → Laid e.life (left_of e next left) qs rs → a ≡ entry_answer e next count left →
       Served (book_setup rule (length ps)) (Stands rule rs phase (next + 1) false) t (Enter e) lent list (Ok a)
   entry_so fs list qs rs count left a h d laid answers =

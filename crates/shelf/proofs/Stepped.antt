@@ -1,5 +1,5 @@
 -- One more request: a shelf that shows the book after it stands after the longer tape. Assumes nothing.
-use Rattle.std.proofs.Common.{◌≡◌, ℕ, Bool, false, List, [], ◌∷◌, ◌++◌, length, None, sym, refl, subst}
+use Rattle.std.proofs.Common.{◌≡◌, ℕ, Bool, false, List, [], ◌∷◌, ◌++◌, length, None, sym, refl, subst, Option}
 use Rattle.orders.specs.declared.request.Request.{Request}
 use Rattle.orders.specs.declared.order.Order.{Order}
 use Rattle.orders.specs.declared.order.Phase.{Phase}
@@ -9,7 +9,6 @@ use Rattle.plain.specs.Book.{fresh as new_book}
 use Rattle.plain.specs.Gate.{AdmittedFrom, refused_by}
 use Rattle.plain.proofs.Tapes.{from_more}
 use Rattle.venue.specs.Questions.{is_empty}
-use Rattle.ranking.specs.declared.place.Place.{Place}
 use Rattle.shelf.specs.Stands.{Shows, Stands}
 
 admitted_more : (rule : Rule) (capacity : ℕ) (b : Book) (t : Tape) (q : Request) (n : ℕ) → AdmittedFrom rule capacity b t →
@@ -21,7 +20,7 @@ not_empty : (t : Tape) (q : Request) → is_empty (t ++ (q ∷ [])) ≡ false
 not_empty [] q = refl
 not_empty (x ∷ t) q = refl
 
-pub stands_more : {rule : Rule} {ps qs : List (Place Order)} {phase phase' : Phase} {next next' : ℕ} {is_fresh : Bool} {t : Tape} (q : Request) (n : ℕ) →
+pub stands_more : {rule : Rule} {ps qs : List (Option Order)} {phase phase' : Phase} {next next' : ℕ} {is_fresh : Bool} {t : Tape} (q : Request) (n : ℕ) →
     Stands rule ps phase next is_fresh t → refused_by (length ps) (after rule t) q n ≡ None → length qs ≡ length ps →
     Shows qs phase' next' (reply rule (after rule t) q).book → Stands rule qs phase' next' false (t ++ (q ∷ []))
 stands_more {rule} {ps} {qs} {phase' = phase'} {next' = next'} {t = t} q n s admits same shows =

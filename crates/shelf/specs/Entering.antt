@@ -1,5 +1,5 @@
 -- What an entry leaves in the places. Assumes nothing.
-use Rattle.std.specs.Prelude.{◌≡◌, ℕ, ◌+◌, ◌-◌, false, cond, ◌&&◌, List, length, nat_lt}
+use Rattle.std.specs.Prelude.{◌≡◌, ℕ, ◌+◌, ◌-◌, false, cond, ◌&&◌, List, length, nat_lt, Option}
 use Rattle.orders.specs.declared.request.Life.{Life}
 use Rattle.orders.specs.declared.entry.Entry.{Entry}
 use Rattle.orders.specs.declared.order.Order.{Order}
@@ -7,7 +7,6 @@ use Rattle.orders.specs.declared.answer.Answer.{Answer}
 use Rattle.orders.specs.declared.answer.Answer.TheVariants.{Entered}
 use Rattle.plain.specs.Rule.{with_remaining}
 use Rattle.plain.specs.Book.{order, rests}
-use Rattle.ranking.specs.declared.place.Place.{Place}
 use Rattle.matching.specs.Weights.{Weight, held_weight}
 use Rattle.shelf.specs.HeldGate.{is_full}
 
@@ -20,7 +19,7 @@ abbrev pub resting_weight : Weight → Life → Order → ℕ
 resting_weight w life o = cond (rests life && nat_lt 0 o.remaining) (w o) 0
 
 -- the order lies in one more place, if it rests
-pub record Laid (life : Life) (o : Order) (ps qs : List (Place Order)) : Type 0 where
+pub record Laid (life : Life) (o : Order) (ps qs : List (Option Order)) : Type 0 where
   pub same_length : length qs ≡ length ps
   pub orders : is_full ps ≡ false → (w : Weight) → held_weight w qs ≡ resting_weight w life o + held_weight w ps
 

@@ -1,5 +1,5 @@
 -- What a shelf of orders stands for. Assumes nothing.
-use Rattle.std.specs.Prelude.{◌≡◌, ℕ, ◌≤◌, Bool, List, length, Result}
+use Rattle.std.specs.Prelude.{◌≡◌, ℕ, ◌≤◌, Bool, List, length, Result, Option}
 use Rattle.orders.specs.declared.request.Request.{Request}
 use Rattle.orders.specs.declared.order.Fill.{Fill}
 use Rattle.orders.specs.declared.answer.Answer.{Answer}
@@ -12,17 +12,16 @@ use Rattle.plain.specs.Book.{fresh as new_book}
 use Rattle.plain.specs.Gate.{AdmittedFrom}
 use Rattle.venue.specs.Meaning.{Setup, Served, book_setup}
 use Rattle.venue.specs.Questions.{is_empty}
-use Rattle.ranking.specs.declared.place.Place.{Place}
 use Rattle.shelf.specs.declared.shelf.Shelf.{Shelf}
 use Rattle.matching.specs.Weights.{SameOrders}
 
 -- the orders held are those of the plain book
-pub record Shows (ps : List (Place Order)) (phase : Phase) (next : ℕ) (b : Book) : Type 0 where
+pub record Shows (ps : List (Option Order)) (phase : Phase) (next : ℕ) (b : Book) : Type 0 where
   pub orders : SameOrders ps b
   pub phase_is : phase ≡ b.phase
   pub next_is : next ≡ b.next
 
-pub record Stands (rule : Rule) (ps : List (Place Order)) (phase : Phase) (next : ℕ) (is_fresh : Bool) (t : Tape) : Type 0 where
+pub record Stands (rule : Rule) (ps : List (Option Order)) (phase : Phase) (next : ℕ) (is_fresh : Bool) (t : Tape) : Type 0 where
   pub shows : Shows ps phase next (after rule t)
   pub fresh_is : is_fresh ≡ is_empty t
   pub some_places : 1 ≤ length ps
@@ -31,7 +30,7 @@ pub record Stands (rule : Rule) (ps : List (Place Order)) (phase : Phase) (next 
   pub lawful : Lawful rule
 
 -- a shelf, by what its list holds and how its rule ranks
-module _ {L R : Type 0} (contents : L → List (Place Order)) where
+module _ {L R : Type 0} (contents : L → List (Option Order)) where
   -- the rule and the number of places stay
   pub record SameShelf (s s' : Shelf L R) : Type 0 where
     pub same_rule : s'.rule ≡ s.rule

@@ -8,7 +8,6 @@ use orders::answer::{Answer, Entered};
 use orders::entry::Entry;
 use orders::order::Order;
 use orders::request::Life;
-use ranking::place::Place;
 use ranking::places::Places;
 
 fn may_rest(life: Life) -> bool

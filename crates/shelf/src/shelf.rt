@@ -15,7 +15,6 @@ use orders::entry::Entry;
 use orders::order::{Fill, Order, Phase};
 use orders::refusal::{Cause, Refusal};
 use orders::request::{Request, Side};
-use ranking::place::Place;
 use ranking::places::Places;
 use ranking::rank::Priority;
 use venue::book::Refused;

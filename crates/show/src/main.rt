@@ -34,7 +34,7 @@ fn show(rt: &impl Print, file: &[u8]) -> io::Result<()> {
 
 fn show_record(rt: &impl Print, line: usize, located: &Located) -> io::Result<()> {
     let offset = located.offset;
-    match Request::from_row(&located.record.row()) {
+    match Request::try_from(&located.record.row()) {
         Ok(request) => println!(rt; "{line} at {offset} {}", Words { request }),
         Err(cause) => show_refusal(rt, line, offset, cause),
     }

@@ -5,10 +5,12 @@ use crate::refusal::Cause;
 use crate::row::CancelRow;
 
 // A cancel is made from a row, and in no other way.
-impl Cancel {
-    pub fn from_row(row: &CancelRow) -> Result<Cancel, Cause>
-        ensures { MadeCancel row.now result }
-    {
+impl<'a> TryFrom<&'a CancelRow> for Cancel {
+    type Error = Cause;
+
+    ghost try_from_gives = { λ row r. MadeCancel row.now r };
+
+    fn try_from(row: &'a CancelRow) -> Result<Cancel, Cause> {
         if row.member > 63 {
             return Err(Cause::UnknownMember);
         }

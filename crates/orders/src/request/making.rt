@@ -6,13 +6,16 @@ use crate::refusal::Cause;
 use crate::request::Request;
 use crate::row::Row;
 
-impl Request {
-    pub fn from_row(row: &Row) -> Result<Request, Cause>
-        ensures { Made row.now result }
-    {
+// A request is made from a row.
+impl<'a> TryFrom<&'a Row> for Request {
+    type Error = Cause;
+
+    ghost try_from_gives = { λ row r. Made row.now r };
+
+    fn try_from(row: &'a Row) -> Result<Request, Cause> {
         match row {
-            Row::Enter(entry) => Ok(Request::Enter(Entry::from_row(entry)?)),
-            Row::Withdraw(cancel) => Ok(Request::Withdraw(Cancel::from_row(cancel)?)),
+            Row::Enter(entry) => Ok(Request::Enter(Entry::try_from(entry)?)),
+            Row::Withdraw(cancel) => Ok(Request::Withdraw(Cancel::try_from(cancel)?)),
             Row::Call => Ok(Request::Call),
             Row::Halt => Ok(Request::Halt),
         }

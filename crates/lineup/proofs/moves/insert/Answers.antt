@@ -1,5 +1,4 @@
-use Rattle.std.proofs.Common.{◌≡◌, ℕ, sym, ◌∙◌, arith}
-use Rattle.ranking.specs.declared.place.Place.TheVariants.{Vacant}
+use Rattle.std.proofs.Common.{◌≡◌, ℕ, sym, ◌∙◌, arith, None}
 use Rattle.lineup.proofs.Mirror.{past_read}
 use Rattle.lineup.proofs.Placing.{placing_more, placing_all}
 use Rattle.lineup.proofs.moves.insert.Goals as goal
@@ -22,7 +21,7 @@ returns g c front y os at len are =
     (λ x e.
     elim c.loop-free-test.branch [
       | else-loop-free-test w ↦
-          let past = past_read c.args.side (g.L.Places.contents c.loop-free.list) _ _ inv.0 w.loop-free-test.false Vacant in
+          let past = past_read c.args.side (g.L.Places.contents c.loop-free.list) _ _ inv.0 w.loop-free-test.false None in
           let z : ◌≡◌ {A = ℕ} 0 1 = cc in
           absurd (omega arith)
       | then-loop-free-test+in-None w ↦ w.in-None.ensures x e

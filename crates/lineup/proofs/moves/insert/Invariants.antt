@@ -1,6 +1,5 @@
-use Rattle.std.proofs.Common.{◌≡◌, ◌-◌, ◌<◌, List, ◌∷◌, ◌++◌, length}
+use Rattle.std.proofs.Common.{◌≡◌, ◌-◌, ◌<◌, List, ◌∷◌, ◌++◌, length, Option}
 use Rattle.orders.specs.declared.order.Order.{Order}
-use Rattle.ranking.specs.declared.place.Place.{Place}
 use Rattle.plain.specs.Orders.{placed}
 use Rattle.lineup.specs.Layout.{seen, held}
 use Rattle.lineup.proofs.Placing.{Placing}
@@ -9,7 +8,7 @@ use Rattle.lineup.proofs.moves.insert.Given as goal
 abbrev pub invariant-loop-free : goal.invariant-loop-free
 invariant-loop-free g l =
     (l.free < l.len) ×
-    ((front : List (Place Order)) (y : Place Order) (os : List Order) →
+    ((front : List (Option Order)) (y : Option Order) (os : List Order) →
     length front ≡ l.initial.free → l.len ≡ length (g.L.Places.contents l.initial.list) →
     seen l.side (g.L.Places.contents l.initial.list) ≡ front ++ y ∷ held os →
     (l.len ≡ length (g.L.Places.contents l.list)) ×

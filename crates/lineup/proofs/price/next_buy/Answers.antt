@@ -1,5 +1,4 @@
-use Rattle.std.proofs.Common.{◌≡◌, ◌∷◌, ◌++◌, length, get_or, sym, ap, ◌∙◌, arith}
-use Rattle.ranking.specs.declared.place.Place.TheVariants.{Vacant}
+use Rattle.std.proofs.Common.{◌≡◌, ◌∷◌, ◌++◌, length, get_or, sym, ap, ◌∙◌, arith, None}
 use Rattle.lineup.proofs.Meeting.{buy_at, buy_there, buys_few, vacant_holds, holds_same}
 use Rattle.lineup.proofs.price.next_buy.Goals as goal
 
@@ -13,7 +12,7 @@ returns-then-buy-limit g c = record {
       let n = buys_few _ _ b l below above are in
       let found = buy_there _ _ b l below above are (omega (arith, at, c.if-left-eq0.false)) in
       let place : c.saturating_sub.result ≡ length below = omega (arith, c.saturating_sub.ensures, at) in
-      let same = holds_same (c.in-Holding.ensures ∙ ap (λ k. get_or (g.L.Places.contents c.args.list.now) k Vacant) place ∙ found.1.1.1) in
+      let same = holds_same (c.in-Some.ensures ∙ ap (λ k. get_or (g.L.Places.contents c.args.list.now) k None) place ∙ found.1.1.1) in
       (found.1.0, (found.1.1.0 ∙ ap (λ o. o ∷ found.1.0) (sym same), c.if-buy-limit.true));
 }
 
@@ -24,16 +23,16 @@ returns-else-buy-limit g c = record {
       let n = buys_few _ _ b l below above are in
       let found = buy_at _ _ b l below x later (are ∙ ap (λ os. below ++ os) is) in
       let place : c.saturating_sub.result ≡ length below = omega (arith, c.saturating_sub.ensures, at) in
-      let same = ap (λ o. o.price) (holds_same (c.in-Holding.ensures ∙ ap (λ k. get_or (g.L.Places.contents c.args.list.now) k Vacant) place ∙ found)) in
+      let same = ap (λ o. o.price) (holds_same (c.in-Some.ensures ∙ ap (λ k. get_or (g.L.Places.contents c.args.list.now) k None) place ∙ found)) in
       omega (arith, same, c.if-buy-limit.false);
 }
 
-pub returns-in-Vacant : goal.returns-in-Vacant
-returns-in-Vacant g c = record {
+pub returns-in-None : goal.returns-in-None
+returns-in-None g c = record {
   some = tt;
   next = λ b below above l are at x later is.
       let n = buys_few _ _ b l below above are in
       let found = buy_at _ _ b l below x later (are ∙ ap (λ os. below ++ os) is) in
       let place : c.saturating_sub.result ≡ length below = omega (arith, c.saturating_sub.ensures, at) in
-      vacant_holds (c.in-Vacant.ensures ∙ ap (λ k. get_or (g.L.Places.contents c.args.list.now) k Vacant) place ∙ found);
+      vacant_holds (c.in-None.ensures ∙ ap (λ k. get_or (g.L.Places.contents c.args.list.now) k None) place ∙ found);
 }

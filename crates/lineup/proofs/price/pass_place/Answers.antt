@@ -4,10 +4,10 @@ use Rattle.lineup.proofs.Sweeping.{sell_next, first_sell}
 use Rattle.lineup.proofs.Meeting.{holds_same}
 use Rattle.lineup.proofs.price.pass_place.Goals as goal
 
-pub returns-in-Holding : goal.returns-in-Holding
-returns-in-Holding g c b sold y later l holds s =
-    let sell = c.in-Holding.sell in
-    let same : y ≡ sell = holds_same (sym holds ∙ c.in-Holding.is) in
+pub returns-in-Some : goal.returns-in-Some
+returns-in-Some g c b sold y later l holds s =
+    let sell = c.in-Some.sell in
+    let same : y ≡ sell = holds_same (sym holds ∙ c.in-Some.is) in
     let t = subst (λ o. SweptBy b sold (o ∷ later) c.args.sweep) same s in
     let first = first_sell b sold sell later _ t in
     let passed = c.pass_buys.ensures b sold (sell ∷ later) l t first.0 first.1 in

@@ -1,6 +1,5 @@
-use Rattle.std.proofs.Common.{◌≡◌, ◌+◌, get_or, drop, ap, ◌∙◌, arith}
+use Rattle.std.proofs.Common.{◌≡◌, ◌+◌, get_or, drop, ap, ◌∙◌, arith, None}
 use Rattle.std.proofs.lemmas.List.{at_drop_more, at_drop_all}
-use Rattle.ranking.specs.declared.place.Place.TheVariants.{Vacant}
 use Rattle.lineup.specs.Layout.{seen, worth, worth_of}
 use Rattle.lineup.proofs.Mirror.{seen_length}
 use Rattle.lineup.proofs.sums.sum_within.Goals as goal
@@ -14,7 +13,7 @@ loop-i-preserved g c =
           let i = c.loop-i.i in
           let worths = worth c.args.side c.args.limit in
           let long = seen_length c.args.seer (g.L.Places.contents c.args.list.now) in
-          let step : worths (drop i places) ≡ worth_of c.args.side c.args.limit (get_or places i Vacant) + worths (drop (i + 1) places) = at_drop_more worths places i Vacant (omega arith) in
+          let step : worths (drop i places) ≡ worth_of c.args.side c.args.limit (get_or places i None) + worths (drop (i + 1) places) = at_drop_more worths places i None (omega arith) in
           let here = c.tonnes_within.ensures ∙ ap (worth_of c.args.side c.args.limit) c.get.ensures in
           let inv = c.loop-i.invariant.1 len in
           omega arith,

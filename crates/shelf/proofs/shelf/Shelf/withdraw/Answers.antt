@@ -5,7 +5,6 @@ use Rattle.orders.specs.declared.refusal.Cause.TheVariants.{NoSuchOrder}
 use Rattle.orders.specs.declared.request.Request.TheVariants.{Withdraw}
 use Rattle.plain.specs.Book.{after, reply}
 use Rattle.plain.proofs.StaysSound.{always_sound}
-use Rattle.ranking.specs.declared.place.Place.TheVariants.{Vacant}
 use Rattle.matching.specs.Scans.{NumberedIn}
 use Rattle.shelf.specs.Stands.{Shows}
 use Rattle.shelf.proofs.Serving.{served_so, served_not}
@@ -42,7 +41,7 @@ returns-else-o-member g c =
     let rule = g.R.Ranking.ahead c.args.self.now.rule in
     let ps = g.L.Places.contents c.args.self.now.list in
     let s0 : ℕ × Order = (c.in-Some.i, c.in-Some.o) in
-    let same : length (g.L.Places.contents c.vacate.new.self) ≡ length ps = ap length c.vacate.ensures ∙ length-set ps c.in-Some.i Vacant in
+    let same : length (g.L.Places.contents c.vacate.new.self) ≡ length ps = ap length c.vacate.ensures ∙ length-set ps c.in-Some.i None in
     let found = subst (λ n. NumberedIn n ps (length ps) (Some s0)) c.number-number.ensures c.in-Some.ensures in
     record {
       same = record { same_rule = refl; same_places = same };

@@ -1,0 +1,24 @@
+-- What an entry asks for, and what it comes to. Assumes nothing.
+use Rattle.std.specs.Prelude.{ℕ, ◌-◌, Bool, cond, not, ◌||◌, nat_lt}
+use Rattle.orders.specs.declared.entry.Entry.{Entry}
+use Rattle.orders.specs.declared.order.Order.{Order}
+use Rattle.orders.specs.declared.order.Fill.{Fill}
+use Rattle.orders.specs.declared.answer.Entered.{Entered}
+use Rattle.orders.specs.Sides.{rests}
+
+-- an entry as an order with a number, all of it remaining
+abbrev pub order : Entry → ℕ → Order
+order e n = record { number = n; member = e.member; side = e.side; price = e.price; quantity = e.quantity; remaining = e.quantity }
+
+-- an entry that states a minimum, or that is to be killed
+abbrev pub needs_dealing : Entry → Bool
+needs_dealing e = nat_lt 0 e.minimum || not (rests e.life)
+
+-- a fill of n tonnes between a buy and a sell
+abbrev pub fill_at : ℕ → Order → Order → ℕ → Fill
+fill_at price b s n = record { buy = b.number; sell = s.number; buyer = b.member; seller = s.member; price = price; quantity = n }
+
+-- the answer to an entry of which so many tonnes are left after so many fills
+abbrev pub entered : Entry → (number fills left : ℕ) → Entered
+entered e number fills left =
+    record { number = number; fills = fills; dealt = e.quantity - left; resting = cond (rests e.life) left 0; withdrawn = cond (rests e.life) 0 left }
