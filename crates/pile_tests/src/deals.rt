@@ -1,11 +1,11 @@
 use crate::rows::*;
 use layers::caps::Caps;
 use layers::collar::Collar;
-use layers::layer::{Layer, stack};
+use layers::layer::Layer;
 use orders::answer::Answer;
 use orders::order::{Fill, Order};
 use orders::row::Row;
-use ranked::book::open;
+use ranked::book::Ranked;
 use ranking::places::{Lent, Places};
 use ranking::rank::Priority;
 use ranking::rules::{Size, Time};
@@ -16,13 +16,7 @@ use venue::venue::Venue;
 
 // Usual caps, and a collar that lets every price pass, over a venue.
 fn pile<V: Venue + Drop>(book: V) -> Result<Layer<Collar, Layer<Caps, V>>, Fail> {
-    let Ok(capped) = stack(Caps::usual(), book) else {
-        return Err(Fail::new("no cap layer"));
-    };
-    match stack(Collar::new(1, 100000), capped) {
-        Ok(pile) => Ok(pile),
-        Err(_) => Err(Fail::new("no collar layer")),
-    }
+    laid(Collar::new(1, 100000), laid(Caps::usual(), book)?)
 }
 
 fn calls<V: Venue>(rt: &impl Abort, venue: &mut V) -> Result<(), Fail> {
@@ -48,12 +42,12 @@ fn minimums<V: Venue>(rt: &impl Abort, venue: &mut V) -> Result<(), Fail> {
     )?;
     assert_eq!(rt;
         refusal(venue, &entry(1, 1, 180, 150, 101))?,
-        (15, 0),
+        Some((15, Some(0))),
         "reach 100, minimum 101"
     );
     assert_eq!(rt;
-        refusal(venue, &entry(1, 1, 180, 150, 100))?.0,
-        0,
+        refusal(venue, &entry(1, 1, 180, 150, 100))?,
+        None,
         "reach 100, minimum 100"
     );
     Ok(())
@@ -63,64 +57,57 @@ fn refusals<V: Venue>(rt: &impl Abort, venue: &mut V) -> Result<(), Fail> {
     send_all(rt, venue, &[buy(200, 300)])?;
     assert_eq!(rt;
         refusal(venue, &buy(200, 701))?,
-        (8, 1),
+        Some((8, Some(1))),
         "held 300 of 1,000, and 701 more"
     );
     assert_eq!(rt;
-        refusal(venue, &buy(200, 700))?.0,
-        0,
+        refusal(venue, &buy(200, 700))?,
+        None,
         "held 300 of 1,000, and 700 more"
     );
-    assert_eq!(rt; refusal(venue, &cancel(1, 1))?.0, 0);
-    assert_eq!(rt; refusal(venue, &cancel(1, 1))?, (12, 0), "a cancel twice");
-    assert_eq!(rt; refusal(venue, &buy(1, 1))?.0, 0, "price 1");
-    assert_eq!(rt; refusal(venue, &sell(100000, 1))?.0, 0, "price 100,000");
+    assert_eq!(rt; refusal(venue, &cancel(1, 1))?, None);
+    assert_eq!(rt; refusal(venue, &cancel(1, 1))?, Some((12, Some(0))), "a cancel twice");
+    assert_eq!(rt; refusal(venue, &buy(1, 1))?, None, "price 1");
+    assert_eq!(rt; refusal(venue, &sell(100000, 1))?, None, "price 100,000");
     Ok(())
 }
 
-// All of them, on a pile over a fresh book each time.
-fn all_on_ranked<L: Places<Record = Order> + Drop>(
-    rt: &impl Abort,
-    list: L,
-    which: u8,
-) -> Result<(), Fail> {
-    let Ok(book) = open(list, Time) else {
-        return Err(Fail::new("no book"));
-    };
-    scenario(rt, &mut pile(book)?, which)
+// What is tried on a fresh pile.
+#[derive(Clone, Copy)]
+enum Scenario {
+    Calls,
+    Minimums,
+    Refusals,
 }
 
-fn all_on_shelf<L: Places<Record = Order> + Drop>(
-    rt: &impl Abort,
-    list: L,
-    which: u8,
-) -> Result<(), Fail> {
-    let Ok(book) = Shelf::over(list, Time) else {
-        return Err(Fail::new("no book"));
-    };
-    scenario(rt, &mut pile(book)?, which)
-}
+impl Scenario {
+    const ALL: [Scenario; 3] = [Scenario::Calls, Scenario::Minimums, Scenario::Refusals];
 
-fn scenario<V: Venue>(rt: &impl Abort, venue: &mut V, which: u8) -> Result<(), Fail> {
-    match which {
-        0 => calls(rt, venue),
-        1 => minimums(rt, venue),
-        _ => refusals(rt, venue),
+    fn play<V: Venue>(self, rt: &impl Abort, venue: &mut V) -> Result<(), Fail> {
+        match self {
+            Scenario::Calls => calls(rt, venue),
+            Scenario::Minimums => minimums(rt, venue),
+            Scenario::Refusals => refusals(rt, venue),
+        }
     }
 }
 
 #[test]
 fn tried_on_the_ranked_book(rt: HostRuntime) -> Result<(), Fail> {
-    for which in 0..3 {
-        all_on_ranked(&rt, Lent::over(&mut [None; 8]), which)?;
+    for scenario in Scenario::ALL {
+        let mut places = [None; 8];
+        let book: Ranked<_, _> = opened(Lent::over(&mut places), Time)?;
+        scenario.play(&rt, &mut pile(book)?)?;
     }
     Ok(())
 }
 
 #[test]
 fn tried_on_the_shelf_book(rt: HostRuntime) -> Result<(), Fail> {
-    for which in 0..3 {
-        all_on_shelf(&rt, Lent::over(&mut [None; 8]), which)?;
+    for scenario in Scenario::ALL {
+        let mut places = [None; 8];
+        let book: Shelf<_, _> = opened(Lent::over(&mut places), Time)?;
+        scenario.play(&rt, &mut pile(book)?)?;
     }
     Ok(())
 }
@@ -140,10 +127,8 @@ fn taken_by<L: Places<Record = Order> + Drop, R: Priority + Drop>(
     list: L,
     rule: R,
 ) -> Result<(u32, u32), Fail> {
-    match open(list, rule) {
-        Ok(book) => taken(rt, &mut pile(book)?),
-        Err(_) => Err(Fail::new("no book")),
-    }
+    let book: Ranked<L, R> = opened(list, rule)?;
+    taken(rt, &mut pile(book)?)
 }
 
 #[test]
@@ -161,20 +146,15 @@ fn rules(rt: HostRuntime) -> Result<(), Fail> {
     Ok(())
 }
 
-fn full<L: Places<Record = Order> + Drop>(rt: &impl Abort, list: L) -> Result<(u8, u8), Fail> {
-    let Ok(book) = open(list, Time) else {
-        return Err(Fail::new("no book"));
-    };
-    let mut pile = pile(book)?;
-    send_all(rt, &mut pile, &[sell(180, 10)])?;
-    refusal(&mut pile, &buy(180, 10))
-}
-
 #[test]
 fn full_book(rt: HostRuntime) -> Result<(), Fail> {
+    let mut places = [None; 1];
+    let book: Ranked<_, _> = opened(Lent::over(&mut places), Time)?;
+    let mut pile = pile(book)?;
+    send_all(&rt, &mut pile, &[sell(180, 10)])?;
     assert_eq!(rt;
-        full(&rt, Lent::over(&mut [None; 1]))?,
-        (13, 0),
+        refusal(&mut pile, &buy(180, 10))?,
+        Some((13, Some(0))),
         "capacity 1, one sell resting"
     );
     Ok(())

@@ -5,9 +5,8 @@ use foreign::relay::Relay;
 use layers::caps::Caps;
 use layers::collar::Collar;
 use layers::layer::stack;
-use orders::order::Order;
 use orders::row::Row;
-use ranking::places::{Lent, Places};
+use ranking::places::Lent;
 use ranking::rules::Time;
 use shelf::shelf::Shelf;
 use std::process::Abort;
@@ -22,34 +21,29 @@ fn mixed<V: Venue + Drop>(rt: &impl Abort, book: V) -> Result<(), Fail> {
     let Ok(counted) = Counting::over(book) else {
         return Err(Fail::new("no count"));
     };
-    let Ok(capped) = stack(Caps::usual(), counted) else {
-        return Err(Fail::new("no cap layer"));
-    };
-    let Ok(mut pile) = stack(Picky, capped) else {
-        return Err(Fail::new("no picky layer"));
-    };
+    let mut pile = laid(Picky, laid(Caps::usual(), counted)?)?;
     assert_eq!(rt;
         refusal(&mut pile, &sell(100, 3))?,
-        (17, 3),
+        Some((17, Some(3))),
         "its own number, at its height"
     );
     assert_eq!(rt;
         refusal(&mut pile, &buy(100, 1001))?,
-        (8, 2),
+        Some((8, Some(2))),
         "our cap below it"
     );
-    assert_eq!(rt; refusal(&mut pile, &sell(100, 4))?.0, 0);
+    assert_eq!(rt; refusal(&mut pile, &sell(100, 4))?, None);
     assert_eq!(rt;
         refusal(&mut pile, &Row::Halt)?,
-        (11, 0),
+        Some((11, Some(0))),
         "the book's own refusal"
     );
-    assert_eq!(rt; told_next(&mut pile), 2, "a run over the whole pile");
+    assert_eq!(rt; told_next(&mut pile), Some(2), "a run over the whole pile");
     Ok(())
 }
 
-// The next number, asked in a run; 0 where none was told.
-fn told_next<V: Venue>(venue: &mut V) -> u32 {
+// The next number, asked in a run, if one was told.
+fn told_next<V: Venue>(venue: &mut V) -> Option<u32> {
     let mut steps = [Step::Ask(Asking {
         question: Question::NextNumber,
         told: None,
@@ -59,58 +53,39 @@ fn told_next<V: Venue>(venue: &mut V) -> u32 {
         Step::Ask(
             Asking {
                 question: _,
-                told: Some(Told::NextNumber(Some(number))),
+                told: Some(Told::NextNumber(number)),
             },
         ) => *number,
-        _ => 0,
-    }
-}
-
-fn mixed_over<L: Places<Record = Order> + Drop>(rt: &impl Abort, list: L) -> Result<(), Fail> {
-    match Shelf::over(list, Time) {
-        Ok(book) => mixed(rt, book),
-        Err(_) => Err(Fail::new("no book")),
+        _ => None,
     }
 }
 
 #[test]
 fn other_peoples_layers(rt: HostRuntime) -> Result<(), Fail> {
-    mixed_over(&rt, Lent::over(&mut [None; 8]))
+    let mut places = [None; 8];
+    let book: Shelf<_, _> = opened(Lent::over(&mut places), Time)?;
+    mixed(&rt, book)
 }
 
-// The number of the refusal that a collar over a venue gets, or 0.
-fn set_up<V: Venue + Drop>(low: u32, high: u32, below: V) -> u8 {
+// The number of the refusal that a collar over a venue gets, if it is refused.
+fn set_up<V: Venue + Drop>(low: u32, high: u32, below: V) -> Option<u8> {
     match stack(Collar::new(low, high), below) {
-        Ok(_) => 0,
-        Err(refused) => refused.cause.number(),
+        Ok(_) => None,
+        Err(refused) => Some(refused.cause.number()),
     }
-}
-
-fn bad_layers<L: Places<Record = Order> + Drop>(
-    rt: &impl Abort,
-    list: L,
-    used: bool,
-) -> Result<u8, Fail> {
-    let Ok(mut book) = Shelf::over(list, Time) else {
-        return Err(Fail::new("no book"));
-    };
-    if used {
-        send_all(rt, &mut book, &[Row::Call, Row::Halt])?;
-        return Ok(set_up(1, 2, book));
-    }
-    Ok(set_up(2, 1, book))
 }
 
 #[test]
 fn refused_layers(rt: HostRuntime) -> Result<(), Fail> {
+    let mut places = [None; 8];
+    let book: Shelf<_, _> = opened(Lent::over(&mut places), Time)?;
+    assert_eq!(rt; set_up(2, 1, book), Some(1), "a low above its high");
+    let mut others = [None; 8];
+    let mut used: Shelf<_, _> = opened(Lent::over(&mut others), Time)?;
+    send_all(&rt, &mut used, &[Row::Call, Row::Halt])?;
     assert_eq!(rt;
-        bad_layers(&rt, Lent::over(&mut [None; 8]), false)?,
-        1,
-        "a low above its high"
-    );
-    assert_eq!(rt;
-        bad_layers(&rt, Lent::over(&mut [None; 8]), true)?,
-        1,
+        set_up(1, 2, used),
+        Some(1),
         "a book that is empty, but not fresh"
     );
     Ok(())
@@ -160,22 +135,17 @@ impl Then for Highest {
         assert_eq!(rt; pile.height(), 15);
         assert_eq!(rt;
             refusal(&mut pile, &Row::Halt)?,
-            (11, 0),
+            Some((11, Some(0))),
             "the book's own refusal"
         );
-        assert_eq!(rt; set_up(1, 2, pile), 1, "a sixteenth layer");
+        assert_eq!(rt; set_up(1, 2, pile), Some(1), "a sixteenth layer");
         Ok(())
-    }
-}
-
-fn high<L: Places<Record = Order> + Drop, A: Abort>(rt: &A, list: L) -> Result<(), Fail> {
-    match Shelf::over(list, Time) {
-        Ok(book) => Raised(Raised(Raised(Highest))).then(rt, book),
-        Err(_) => Err(Fail::new("no book")),
     }
 }
 
 #[test]
 fn fifteen_and_no_more(rt: HostRuntime) -> Result<(), Fail> {
-    high(&rt, Lent::over(&mut [None; 8]))
+    let mut places = [None; 8];
+    let book: Shelf<_, _> = opened(Lent::over(&mut places), Time)?;
+    Raised(Raised(Raised(Highest))).then(&rt, book)
 }

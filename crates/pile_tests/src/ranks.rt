@@ -1,9 +1,9 @@
 use crate::rows::*;
 use orders::order::Order;
 use orders::request::Side;
-use ranked::book::open;
+use ranked::book::Ranked;
 use ranking::finding::first_of;
-use ranking::places::{Lent, Places};
+use ranking::places::Lent;
 use ranking::rank::Priority;
 use ranking::rules::{Size, Time};
 use ranking::sequence::in_sequence;
@@ -23,36 +23,10 @@ fn sells_by_rank<V: Venue>(
         venue,
         &[sell(181, 90), sell(180, 50), sell(180, 80), sell(180, 50)],
     )?;
-    for i in 0..places.len() {
-        if let Some(order) = venue.order_at(Side::Sell, i + 1) {
-            places[i] = Some(order);
-        }
+    for (i, place) in places.iter_mut().enumerate() {
+        *place = venue.order_at(Side::Sell, i + 1);
     }
     Ok(())
-}
-
-fn on_ranked<L: Places<Record = Order> + Drop, R: Priority + Drop>(
-    rt: &impl Abort,
-    list: L,
-    rule: R,
-    places: &mut [Option<Order>],
-) -> Result<(), Fail> {
-    match open(list, rule) {
-        Ok(mut book) => sells_by_rank(rt, &mut book, places),
-        Err(_) => Err(Fail::new("no book")),
-    }
-}
-
-fn on_shelf<L: Places<Record = Order> + Drop, R: Priority + Drop>(
-    rt: &impl Abort,
-    list: L,
-    rule: R,
-    places: &mut [Option<Order>],
-) -> Result<(), Fail> {
-    match Shelf::over(list, rule) {
-        Ok(mut book) => sells_by_rank(rt, &mut book, places),
-        Err(_) => Err(Fail::new("no book")),
-    }
 }
 
 // The orders are in the sequence of the rule, and the one of a number comes first.
@@ -77,12 +51,15 @@ fn led_by<R: Priority>(
 #[test]
 fn sequences(rt: HostRuntime) -> Result<(), Fail> {
     let mut places = [None; 8];
-    on_ranked(&rt, Lent::over(&mut [None; 8]), Time, &mut places)?;
+    let mut lists = ([None; 8], [None; 8]);
+    let mut ranked: Ranked<_, _> = opened(Lent::over(&mut lists.0), Time)?;
+    sells_by_rank(&rt, &mut ranked, &mut places)?;
     led_by(&rt, &Time, &mut places, 2, "ranked, time")?;
     assert!(rt;
         !in_sequence(&Lent::over(&mut places), &Size),
         "time is not size"
     );
-    on_shelf(&rt, Lent::over(&mut [None; 8]), Size, &mut places)?;
+    let mut shelf: Shelf<_, _> = opened(Lent::over(&mut lists.1), Size)?;
+    sells_by_rank(&rt, &mut shelf, &mut places)?;
     led_by(&rt, &Size, &mut places, 3, "shelf, size")
 }

@@ -1,10 +1,14 @@
+use layers::layer::{Layer, Part, stack};
 use orders::answer::Answer;
-use orders::order::Fill;
+use orders::order::{Fill, Order};
 use orders::refusal::Refusal;
 use orders::request::Request;
 use orders::row::{CancelRow, EntryRow, Row};
+use ranking::places::Places;
+use ranking::rank::Priority;
 use std::process::Abort;
 use std::test::*;
+use venue::book::Book;
 use venue::venue::Venue;
 
 // Member 1 buys and member 2 sells, to rest.
@@ -31,31 +35,41 @@ pub fn cancel(member: u8, number: u32) -> Row {
     Row::Withdraw(CancelRow { member, number })
 }
 
+// An empty book of a kind.
+pub fn opened<L: Places<Record = Order> + Drop, R: Priority + Drop, B: Book<L, R>>(
+    list: L,
+    rule: R,
+) -> Result<B, Fail> {
+    Ok(B::open(list, rule).map_err(|refused| refused.cause)?)
+}
+
+// A layer over a venue.
+pub fn laid<P: Part + Drop, V: Venue + Drop>(part: P, below: V) -> Result<Layer<P, V>, Fail> {
+    Ok(stack(part, below).map_err(|refused| refused.cause)?)
+}
+
 // Sends a row as a request; a row that is none fails the test.
 pub fn send<V: Venue>(
     venue: &mut V,
     row: &Row,
     fills: &mut [Fill],
 ) -> Result<Result<Answer, Refusal>, Fail> {
-    match Request::try_from(row) {
-        Ok(request) => Ok(venue.serve(request, fills)),
-        Err(_) => Err(Fail::new("a row that is no request")),
-    }
+    Ok(venue.serve(Request::try_from(row)?, fills))
 }
 
-// The number of the refusal that a row gets, or 0, and the height that gave it, or 99.
-pub fn refusal<V: Venue>(venue: &mut V, row: &Row) -> Result<(u8, u8), Fail> {
+// The number of the refusal that a row gets, if it is refused, and the height that gave it.
+pub fn refusal<V: Venue>(venue: &mut V, row: &Row) -> Result<Option<(u8, Option<u8>)>, Fail> {
     let mut fills = [Fill::BLANK; 8];
     match send(venue, row, &mut fills)? {
-        Ok(_) => Ok((0, 99)),
-        Err(refusal) => Ok((refusal.cause.number(), refusal.height.unwrap_or(99))),
+        Ok(_) => Ok(None),
+        Err(refusal) => Ok(Some((refusal.cause.number(), refusal.height))),
     }
 }
 
 // Sends rows that must be admitted.
 pub fn send_all<V: Venue>(rt: &impl Abort, venue: &mut V, rows: &[Row]) -> Result<(), Fail> {
     for row in rows {
-        assert_eq!(rt; refusal(venue, row)?.0, 0);
+        assert_eq!(rt; refusal(venue, row)?, None);
     }
     Ok(())
 }
