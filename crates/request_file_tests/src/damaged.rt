@@ -1,39 +1,38 @@
+use request_file::fault::Fault;
 use request_file::reader::Reader;
 use std::process::Abort;
 
-// What a file came to: how many records, and the number and offset of the refusal that ended it (0 and 0 for none).
-#[derive(Clone, Copy)]
+// What a file came to: how many records, and the refusal that ended it, if one did.
 struct Outcome {
     records: usize,
-    refusal: u8,
-    offset: usize,
+    fault: Option<Fault>,
 }
 
 fn read_all(file: &[u8]) -> Outcome {
     let mut records = 0usize;
-    let mut refusal = 0;
-    let mut offset = 0;
+    let mut fault = None;
     for item in Reader::over(file) {
         match item {
             Ok(_) => records = records.saturating_add(1),
-            Err(fault) => {
-                refusal = fault.cause.number();
-                offset = fault.offset;
-            }
+            Err(found) => fault = Some(found),
         }
     }
-    Outcome {
-        records,
-        refusal,
-        offset,
-    }
+    Outcome { records, fault }
 }
 
+// A file comes to so many records, and is then ended by no refusal.
+fn is_whole(rt: &impl Abort, what: &str, file: &[u8], records: usize) {
+    let Outcome { records: read, fault } = read_all(file);
+    assert_eq!(rt; read, records, "{what}");
+    assert!(rt; fault.is_none(), "{what}");
+}
+
+// A file comes to so many records, and is then ended by the refusal of a number, at an offset.
 fn comes_to(rt: &impl Abort, what: &str, file: &[u8], records: usize, refusal: u8, offset: usize) {
-    let came = read_all(file);
-    assert_eq!(rt; came.records, records, "{what}");
-    assert_eq!(rt; came.refusal, refusal, "{what}");
-    assert_eq!(rt; came.offset, offset, "{what}");
+    let Outcome { records: read, fault } = read_all(file);
+    assert_eq!(rt; read, records, "{what}");
+    let ended = fault.map(|fault| (fault.cause.number(), fault.offset));
+    assert_eq!(rt; ended, Some((refusal, offset)), "{what}");
 }
 
 #[test]
@@ -41,7 +40,7 @@ fn version(rt: HostRuntime) {
     comes_to(&rt, "an empty file", b"", 0, 2, 0);
     comes_to(&rt, "version 0", b"\x00", 0, 2, 0);
     comes_to(&rt, "version 2", b"\x02\x00\x01\x03", 0, 2, 0);
-    comes_to(&rt, "the version byte alone", b"\x01", 0, 0, 0);
+    is_whole(&rt, "the version byte alone", b"\x01", 0);
 }
 
 #[test]
