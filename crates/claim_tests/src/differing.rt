@@ -1,6 +1,7 @@
 use crate::market::*;
 use ledger::totals::Ledger;
 use orders::order::Order;
+use orders::request::Request;
 use orders::row::Row;
 use ranked::book::open;
 use ranking::places::{Lent, Places};
@@ -12,12 +13,12 @@ use shelf::shelf::Shelf;
 use std::alloc::Global;
 use std::test::Fail;
 
-// A fault as numbers: the count of its item, and the refusal of the claim, or 0 where it was answered otherwise.
-fn numbers(noted: &Noted) -> (usize, u8) {
+// A fault as numbers: the count of its item, and the refusal of the claim, if that is what went wrong.
+fn numbers(noted: &Noted) -> (usize, Option<u8>) {
     match noted.fault {
-        Fault::Unbooked(Unbooked::Failed(cause)) => (noted.count, cause.number()),
-        Fault::Unbooked(Unbooked::Full(cause)) => (noted.count, cause.number()),
-        Fault::Otherwise => (noted.count, 0),
+        Fault::Unbooked(Unbooked::Failed(cause)) => (noted.count, Some(cause.number())),
+        Fault::Unbooked(Unbooked::Full(cause)) => (noted.count, Some(cause.number())),
+        Fault::Otherwise => (noted.count, None),
     }
 }
 
@@ -26,18 +27,16 @@ fn settled<L: Places<Record = Order> + Drop, M: Places<Record = Order> + Drop>(
     heap: Global,
     list: L,
     other: M,
-) -> Result<((usize, u8), u64), Fail> {
-    let Ok(mut first) = Shelf::over(list, Time) else {
-        return Err(Fail::new("no book"));
-    };
+) -> Result<((usize, Option<u8>), u64), Fail> {
+    let mut first: Shelf<L, Time> = opened(list)?;
     let Ok(mut second) = open(other, Size) else {
         return Err(Fail::new("no other book"));
     };
     let items = [
-        Ok(request(&Row::Call)?),
-        Ok(request(&entry(2, 2, 180, 50))?),
-        Ok(request(&entry(4, 2, 180, 80))?),
-        Ok(request(&entry(1, 1, 180, 60))?),
+        Request::try_from(&Row::Call),
+        Request::try_from(&entry(2, 2, 180, 50)),
+        Request::try_from(&entry(4, 2, 180, 80)),
+        Request::try_from(&entry(1, 1, 180, 60)),
     ];
     let mut ledger = Ledger::new();
     let notes = settle_items(heap, &mut first, &mut second, &mut ledger, &items)?;
@@ -54,7 +53,7 @@ fn two_rules(rt: HostRuntime) -> Result<(), Fail> {
     let found = settled(rt.alloc(), Lent::over(&mut places), Lent::over(&mut others))?;
     assert_eq!(rt;
         found,
-        ((4, 16), 0),
+        ((4, Some(16)), 0),
         "fills that are not those of the other rule are not booked"
     );
     Ok(())
@@ -67,7 +66,7 @@ fn two_capacities(rt: HostRuntime) -> Result<(), Fail> {
     let found = settled(rt.alloc(), Lent::over(&mut places), Lent::over(&mut others))?;
     assert_eq!(rt;
         found.0,
-        (3, 0),
+        (3, None),
         "a book of one place refuses the second sell"
     );
     Ok(())

@@ -2,9 +2,9 @@ use crate::market::*;
 use claims::check::check as check_claim;
 use claims::claim::{Claim, Subject};
 use ledger::totals::Ledger;
-use orders::order::{Fill, Order};
-use ranking::places::{Lent, Places};
-use ranking::rules::Time;
+use orders::order::Fill;
+use orders::refusal::Cause;
+use ranking::places::Lent;
 use shelf::shelf::Shelf;
 use std::alloc::Global;
 use std::process::Abort;
@@ -23,18 +23,36 @@ pub fn fill(buyer: u8, seller: u8, price: u32, quantity: u32) -> Fill {
     }
 }
 
-// Books a deal of two members in a ledger some times, each time by a claim against a book that is about to call it.
-fn deal_often<L: Places<Record = Order> + Drop>(
+// The last booking is asked for first, and is answered the same.
+fn asked_and_booked<V: Venue>(
     rt: &impl Abort,
     heap: Global,
-    list: L,
+    venue: &V,
+    ledger: &mut Ledger,
+    subject: Subject,
+    deal: Fill,
+) -> Result<Option<u8>, Fail> {
+    let claim = Claim::new(subject, [deal].to_vec(heap)?);
+    let Ok(checked) = check_claim(venue, &claim) else {
+        return Err(Fail::new("a claim that fails"));
+    };
+    let asked = ledger.would_book(&checked);
+    let answered = ledger.book(checked);
+    assert!(rt; asked == answered);
+    Ok(answered.err().map(Cause::number))
+}
+
+// Books a deal of two members in a ledger some times, each time by a claim against a book that is about to call it:
+// the number of the refusal that the last booking gets, if it is refused.
+pub fn dealt(
+    rt: &impl Abort,
+    heap: Global,
     ledger: &mut Ledger,
     deal: Fill,
     times: u32,
-) -> Result<u8, Fail> {
-    let Ok(mut book) = Shelf::over(list, Time) else {
-        return Err(Fail::new("no book"));
-    };
+) -> Result<Option<u8>, Fail> {
+    let mut places = [None; 2];
+    let mut book: Shelf<_, _> = opened(Lent::over(&mut places))?;
     let Fill {
         price,
         quantity,
@@ -53,52 +71,9 @@ fn deal_often<L: Places<Record = Order> + Drop>(
         volume: quantity,
     };
     for _ in 1..times {
-        assert_eq!(rt; booked(heap, &book, ledger, subject, &[deal])?, 0);
+        assert_eq!(rt; booked(heap, &book, ledger, subject, &[deal])?, None);
     }
     asked_and_booked(rt, heap, &book, ledger, subject, deal)
-}
-
-// The last booking is asked for first, and is answered the same.
-fn asked_and_booked<V: Venue>(
-    rt: &impl Abort,
-    heap: Global,
-    venue: &V,
-    ledger: &mut Ledger,
-    subject: Subject,
-    deal: Fill,
-) -> Result<u8, Fail> {
-    let claim = Claim::new(subject, [deal].to_vec(heap)?);
-    let Ok(checked) = check_claim(venue, &claim) else {
-        return Err(Fail::new("a claim that fails"));
-    };
-    let asked = match ledger.would_book(&checked) {
-        Ok(()) => 0,
-        Err(cause) => cause.number(),
-    };
-    let answered = match ledger.book(checked) {
-        Ok(()) => 0,
-        Err(cause) => cause.number(),
-    };
-    assert_eq!(rt; asked, answered);
-    Ok(answered)
-}
-
-// The same on a fresh book: what the last booking is answered.
-pub fn dealt(
-    rt: &impl Abort,
-    heap: Global,
-    ledger: &mut Ledger,
-    deal: Fill,
-    times: u32,
-) -> Result<u8, Fail> {
-    deal_often(
-        rt,
-        heap,
-        Lent::over(&mut [None; 2]),
-        ledger,
-        deal,
-        times,
-    )
 }
 
 #[test]
@@ -108,23 +83,23 @@ fn to_the_limit_and_no_further(rt: HostRuntime) -> Result<(), Fail> {
     let large = fill(1, 2, 100000, 50000);
     assert_eq!(rt;
         dealt(&rt, heap, &mut ledger, large, 200)?,
-        0,
+        None,
         "1,000,000,000,000 pence"
     );
     assert_eq!(rt; ledger.row(1).pay, 1000000000000);
     assert_eq!(rt;
         dealt(&rt, heap, &mut ledger, fill(1, 3, 1, 1), 1)?,
-        17,
+        Some(17),
         "a penny more to pay"
     );
     assert_eq!(rt;
         dealt(&rt, heap, &mut ledger, fill(3, 2, 1, 1), 1)?,
-        17,
+        Some(17),
         "a penny more to receive"
     );
     assert_eq!(rt;
         dealt(&rt, heap, &mut ledger, fill(3, 1, 1, 1), 1)?,
-        0,
+        None,
         "a penny of others"
     );
     assert_eq!(rt; ledger.sum().pay, 1000000000001);

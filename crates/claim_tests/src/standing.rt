@@ -9,9 +9,9 @@ use std::test::Fail;
 fn members_stand_in_sequence(rt: HostRuntime) -> Result<(), Fail> {
     let heap = rt.alloc();
     let mut ledger = Ledger::new();
-    assert_eq!(rt; dealt(&rt, heap, &mut ledger, fill(5, 2, 10, 30), 1)?, 0);
-    assert_eq!(rt; dealt(&rt, heap, &mut ledger, fill(4, 2, 10, 40), 1)?, 0);
-    assert_eq!(rt; dealt(&rt, heap, &mut ledger, fill(3, 2, 10, 40), 1)?, 0);
+    assert_eq!(rt; dealt(&rt, heap, &mut ledger, fill(5, 2, 10, 30), 1)?, None);
+    assert_eq!(rt; dealt(&rt, heap, &mut ledger, fill(4, 2, 10, 40), 1)?, None);
+    assert_eq!(rt; dealt(&rt, heap, &mut ledger, fill(3, 2, 10, 40), 1)?, None);
     let board = rank_members(&ledger);
     assert!(rt; in_sequence(&board, &MostBought), "in sequence");
     match first_of(&board, &MostBought) {

@@ -1,12 +1,11 @@
 use crate::market::*;
 use claims::claim::Subject;
 use ledger::totals::Ledger;
-use orders::order::{Fill, Order};
+use orders::order::Fill;
 use orders::request::Request;
 use orders::row::Row;
-use ranked::book::open;
-use ranking::places::{Lent, Places};
-use ranking::rules::Time;
+use ranked::book::Ranked;
+use ranking::places::Lent;
 use std::alloc::Global;
 use std::process::Abort;
 use std::test::Fail;
@@ -28,14 +27,14 @@ fn called(price: u32, volume: u32) -> Subject {
     Subject::Call { price, volume }
 }
 
-// Puts fills forward that must be refused by a number, or booked for 0.
+// Puts fills forward that must be refused by a number, or else booked.
 fn put<V: Venue>(
     rt: &impl Abort,
     heap: Global,
     venue: &V,
     subject: Subject,
     fills: &[Fill],
-    expected: u8,
+    expected: Option<u8>,
     what: &str,
 ) -> Result<(), Fail> {
     assert_eq!(rt;
@@ -54,18 +53,18 @@ fn tried_empty<V: Venue>(rt: &impl Abort, heap: Global, venue: &V) -> Result<(),
         venue,
         called(5, 0),
         &[],
-        16,
+        Some(16),
         "price 5 of an empty call",
     )?;
-    put(rt, heap, venue, called(0, 0), &[], 0, "an empty call")
+    put(rt, heap, venue, called(0, 0), &[], None, "an empty call")
 }
 
 // Of a book that a call deals at 180 for 160 tonnes.
 fn tried_fills<V: Venue>(rt: &impl Abort, heap: Global, venue: &V) -> Result<(), Fail> {
     let subject = called(180, 160);
     let (a, b, c) = (fill(1, 3, 80), fill(1, 4, 20), fill(2, 4, 60));
-    put(rt, heap, venue, subject, &[a, b, c], 0, "as dealt")?;
-    put(rt, heap, venue, subject, &[c, b, a], 16, "reversed")?;
+    put(rt, heap, venue, subject, &[a, b, c], None, "as dealt")?;
+    put(rt, heap, venue, subject, &[c, b, a], Some(16), "reversed")?;
     let half = fill(1, 4, 10);
     put(
         rt,
@@ -73,7 +72,7 @@ fn tried_fills<V: Venue>(rt: &impl Abort, heap: Global, venue: &V) -> Result<(),
         venue,
         subject,
         &[a, half, half, c],
-        16,
+        Some(16),
         "a pair's fill split in two",
     )?;
     let large = [fill(1, 3, 4294967295), fill(1, 4, 81), fill(2, 4, 80)];
@@ -83,7 +82,7 @@ fn tried_fills<V: Venue>(rt: &impl Abort, heap: Global, venue: &V) -> Result<(),
         venue,
         subject,
         &large,
-        16,
+        Some(16),
         "a sum past 32 bits, which is 160 in them",
     )?;
     let other = Fill { buyer: 9, ..a };
@@ -93,22 +92,18 @@ fn tried_fills<V: Venue>(rt: &impl Abort, heap: Global, venue: &V) -> Result<(),
         venue,
         subject,
         &[other, b, c],
-        16,
+        Some(16),
         "a wrong member",
     )
 }
 
-fn tried<L: Places<Record = Order> + Drop>(
-    rt: &impl Abort,
-    heap: Global,
-    list: L,
-) -> Result<(), Fail> {
-    let Ok(mut book) = open(list, Time) else {
-        return Err(Fail::new("no book"));
-    };
-    tried_empty(rt, heap, &book)?;
+#[test]
+fn claims_of_a_call(rt: HostRuntime) -> Result<(), Fail> {
+    let mut places = [None; 8];
+    let mut book: Ranked<_, _> = opened(Lent::over(&mut places))?;
+    tried_empty(&rt, rt.alloc(), &book)?;
     send_all(
-        rt,
+        &rt,
         &mut book,
         &[
             entry(1, 1, 200, 100),
@@ -117,48 +112,27 @@ fn tried<L: Places<Record = Order> + Drop>(
             entry(4, 2, 180, 80),
         ],
     )?;
-    tried_fills(rt, heap, &book)
-}
-
-#[test]
-fn claims_of_a_call(rt: HostRuntime) -> Result<(), Fail> {
-    tried(&rt, rt.alloc(), Lent::over(&mut [None; 8]))
+    tried_fills(&rt, rt.alloc(), &book)
 }
 
 // Of a book that deals a buy of 100 with sells of 50 and 80.
 fn tried_dealing<V: Venue>(rt: &impl Abort, heap: Global, venue: &V) -> Result<(), Fail> {
-    let Request::Enter(entry) = request(&entry(1, 1, 180, 100))? else {
+    let Request::Enter(entry) = Request::try_from(&entry(1, 1, 180, 100))? else {
         return Err(Fail::new("no entry"));
     };
     let subject = Subject::Entry(entry);
     let (a, b) = (sold(1, 2, 50), sold(2, 4, 50));
-    put(rt, heap, venue, subject, &[a, b], 0, "as dealt")?;
-    put(rt, heap, venue, subject, &[b, a], 16, "reversed")?;
+    put(rt, heap, venue, subject, &[a, b], None, "as dealt")?;
+    put(rt, heap, venue, subject, &[b, a], Some(16), "reversed")?;
     put(
         rt,
         heap,
         venue,
         called(0, 0),
         &[],
-        11,
+        Some(11),
         "a call while dealing",
     )
-}
-
-fn tried_entry<L: Places<Record = Order> + Drop>(
-    rt: &impl Abort,
-    heap: Global,
-    list: L,
-) -> Result<(), Fail> {
-    let Ok(mut book) = open(list, Time) else {
-        return Err(Fail::new("no book"));
-    };
-    send_all(
-        rt,
-        &mut book,
-        &[Row::Call, entry(2, 2, 180, 50), entry(4, 2, 180, 80)],
-    )?;
-    tried_dealing(rt, heap, &book)
 }
 
 // A fill of the buy 3 of member 1.
@@ -175,5 +149,12 @@ fn sold(sell: u32, seller: u8, quantity: u32) -> Fill {
 
 #[test]
 fn claims_of_an_entry(rt: HostRuntime) -> Result<(), Fail> {
-    tried_entry(&rt, rt.alloc(), Lent::over(&mut [None; 8]))
+    let mut places = [None; 8];
+    let mut book: Ranked<_, _> = opened(Lent::over(&mut places))?;
+    send_all(
+        &rt,
+        &mut book,
+        &[Row::Call, entry(2, 2, 180, 50), entry(4, 2, 180, 80)],
+    )?;
+    tried_dealing(&rt, rt.alloc(), &book)
 }
