@@ -78,10 +78,11 @@ fn withdrawn(request: &Request, answer: &Answer) -> Tonnage
             member: entry.member(),
             tonnes: entered.withdrawn,
         },
-        (Request::Withdraw(cancel), Answer::Withdrawn(order)) if order.side == Side::Buy => Tonnage {
-            member: cancel.member(),
-            tonnes: order.tonnes,
-        },
+        (Request::Withdraw(cancel), Answer::Withdrawn(order)) if order.side == Side::Buy =>
+            Tonnage {
+                member: cancel.member(),
+                tonnes: order.tonnes,
+            },
         _ => Tonnage::NONE,
     }
 }

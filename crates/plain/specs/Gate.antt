@@ -1,6 +1,5 @@
 -- The plain gate: what every book refuses. Assumes nothing.
-use Rattle.std.specs.Prelude.{◌≡◌, ℕ, Bool, true, false, not, ◌||◌, [], ◌∷◌, length, Some, None, Option, ◌==◌, nat_le, nat_lt}
-use Rattle.orders.specs.declared.request.Life.{Life}
+use Rattle.std.specs.Prelude.{◌≡◌, ℕ, Bool, true, false, not, [], ◌∷◌, length, Some, None, Option, ◌==◌, nat_le, nat_lt}
 use Rattle.orders.specs.declared.entry.Entry.{Entry}
 use Rattle.orders.specs.declared.request.Request.{Request}
 use Rattle.orders.specs.declared.request.Request.TheVariants.{Enter, Withdraw, Call, Halt}
@@ -10,15 +9,10 @@ use Rattle.orders.specs.declared.order.Order.{Order}
 use Rattle.orders.specs.declared.refusal.Cause.{Cause}
 use Rattle.orders.specs.declared.refusal.Cause.TheVariants.{FillListShort, WrongPhase, NoSuchOrder, BookFull, NumbersSpent, BelowMinimum}
 use Rattle.orders.specs.Causes.{when, first}
-use Rattle.orders.specs.Sides.{rests}
 use Rattle.orders.specs.Entries.{needs_dealing}
 use Rattle.plain.specs.Rule.{Rule}
 use Rattle.plain.specs.Orders.{find}
 use Rattle.plain.specs.Book.{Book, Tape, reach, resting, reply}
-
--- an entry that is not to rest
-abbrev pub killed : Life → Bool
-killed life = not (rests life)
 
 -- an entry comes too early: it states a minimum or is to be killed, and nothing deals yet
 abbrev pub early : Phase → Entry → Bool
