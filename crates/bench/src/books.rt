@@ -6,13 +6,14 @@ use layers::collar::Collar;
 use layers::layer::stack;
 use orders::order::{Fill, Order};
 use orders::request::Request;
-use ranked::book::open;
+use ranked::book::Ranked;
 use ranking::places::{Lent, Places};
 use ranking::rules::Time;
 use request_file::reader::Reader;
 use shelf::shelf::Shelf;
 use std::alloc::{AllocError, Global};
 use std::time::Instant;
+use venue::book::Book;
 use venue::venue::Venue;
 
 // Requests to be served, first those that are not measured.
@@ -32,10 +33,9 @@ fn read_requests(heap: Global, file: &[u8]) -> Result<Vec<Request>, AllocError> 
         let Ok(located) = item else {
             continue;
         };
-        let Ok(request) = Request::try_from(&located.record.row()) else {
-            continue;
-        };
-        requests.push(request)?;
+        if let Ok(request) = Request::try_from(&located.record.row()) {
+            requests.push(request)?;
+        }
     }
     Ok(requests)
 }
@@ -118,6 +118,14 @@ fn pile_round<V: Venue + Drop>(
     serve_round(rt, pile, sent, fills)
 }
 
+// A fresh book of a kind over a list.
+fn opened<L: Places<Record = Order> + Drop, B: Book<L, Time>>(list: L) -> anyhow::Result<B> {
+    match B::open(list, Time) {
+        Ok(book) => Ok(book),
+        Err(_) => Err(anyhow!("no book has so many places")),
+    }
+}
+
 // A round on a fresh book over a list.
 fn list_round<L: Places<Record = Order> + Drop>(
     rt: &HostRuntime,
@@ -126,18 +134,12 @@ fn list_round<L: Places<Record = Order> + Drop>(
     sent: Sent,
     fills: &mut [Fill],
 ) -> anyhow::Result<Round> {
-    if let Setting::Shelf = setting {
-        let Ok(book) = Shelf::over(list, Time) else {
-            return Err(anyhow!("no book has so many places"));
-        };
-        return serve_round(rt, book, sent, fills);
-    }
-    let Ok(book) = open(list, Time) else {
-        return Err(anyhow!("no book has so many places"));
-    };
     match setting {
-        Setting::Pile => pile_round(rt, book, sent, fills),
-        _ => serve_round(rt, book, sent, fills),
+        Setting::Shelf => serve_round(rt, opened::<L, Shelf<L, Time>>(list)?, sent, fills),
+        Setting::Ranked | Setting::LastAlone => {
+            serve_round(rt, opened::<L, Ranked<L, Time>>(list)?, sent, fills)
+        }
+        Setting::Pile => pile_round(rt, opened::<L, Ranked<L, Time>>(list)?, sent, fills),
     }
 }
 

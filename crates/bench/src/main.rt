@@ -37,7 +37,7 @@ fn run(rt: &HostRuntime) -> anyhow::Result<()> {
     let mut file = Vec::new(rt.alloc());
     rt.stdin().read_to_end(&mut file)?;
     let done = measure(rt, words, file.as_slice())?;
-    println!(rt; "{} of {}", done.admitted, done.records)?;
+    println!(rt; "{} of {}", done.first.admitted, done.first.records)?;
     eprintln!(rt; "{} rounds {} ns", done.count, done.spent.as_nanos())?;
     Ok(())
 }

@@ -10,13 +10,12 @@ pub struct Round {
     pub spent: Duration,
 }
 
-// What all rounds took, and what the last of them did.
+// How many rounds there were, what all of them took, and what the first of them did.
 #[derive(Clone, Copy)]
 pub struct Rounds {
     pub count: u32,
-    pub records: usize,
-    pub admitted: usize,
     pub spent: Duration,
+    pub first: Round,
 }
 
 // Work that is set up anew for each round; the setting up is not in its time.
@@ -32,9 +31,8 @@ pub fn repeat<W: Work>(rt: &HostRuntime, work: &mut W, least: Duration) -> anyho
     let first = work.round(rt)?;
     let mut done = Rounds {
         count: 1,
-        records: first.records,
-        admitted: first.admitted,
         spent: first.spent,
+        first,
     };
     for count in 2..MOST {
         if done.spent >= least {

@@ -1,5 +1,6 @@
 use anyhow::anyhow;
 use std::env;
+use std::str::FromStr;
 
 // What requests are served on, and how much of it is measured.
 #[derive(Clone, Copy)]
@@ -39,19 +40,23 @@ pub fn read_words(rt: &HostRuntime) -> anyhow::Result<Option<Words>> {
         return Err(anyhow!("MILLISECONDS is missing"));
     };
     Ok(Some(Words {
-        kind: read_kind(work.as_str())?,
+        kind: work.as_str().parse::<Kind>()?,
         places: places.as_str().parse::<usize>()?,
         milliseconds: milliseconds.as_str().parse::<u64>()?,
     }))
 }
 
-fn read_kind(word: &str) -> anyhow::Result<Kind> {
-    match word {
-        "read" => Ok(Kind::Read),
-        "shelf" => Ok(Kind::Serve(Setting::Shelf)),
-        "ranked" => Ok(Kind::Serve(Setting::Ranked)),
-        "pile" => Ok(Kind::Serve(Setting::Pile)),
-        "last" => Ok(Kind::Serve(Setting::LastAlone)),
-        _ => Err(anyhow!("WORK is none of read, shelf, ranked, pile and last")),
+impl FromStr for Kind {
+    type Err = anyhow::Error;
+
+    fn from_str(word: &str) -> anyhow::Result<Kind> {
+        match word {
+            "read" => Ok(Kind::Read),
+            "shelf" => Ok(Kind::Serve(Setting::Shelf)),
+            "ranked" => Ok(Kind::Serve(Setting::Ranked)),
+            "pile" => Ok(Kind::Serve(Setting::Pile)),
+            "last" => Ok(Kind::Serve(Setting::LastAlone)),
+            _ => Err(anyhow!("WORK is none of read, shelf, ranked, pile and last")),
+        }
     }
 }

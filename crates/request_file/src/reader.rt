@@ -59,7 +59,8 @@ impl<'a> Iterator for Reader<'a> {
     }
 }
 
-// What one call gives, and where the reader stands after it.
+// What one call gives, and where the reader stands after it: told together, since only where a record is cut from the file
+// is the offset after it known to be a number.
 #[derive(Clone, Copy)]
 struct Turn<'a> {
     found: Option<Result<Located<'a>, Fault>>,
