@@ -1,5 +1,4 @@
 ghost use Rattle.std.specs.Prelude.{◌≡◌};
-ghost use Rattle.plain.specs.Dealing.{fill};
 ghost use Rattle.matching.specs.declared.dealing.Deal.TheVariants.{Entry, Call};
 ghost use Rattle.matching.specs.Deals.{fill_at, reduced, Turned, OneDeal, RunOut, DealtNow};
 
@@ -16,26 +15,13 @@ pub enum Deal {
     Call(u32),
 }
 
-fn fill_of(buy: &Order, sell: &Order, price: u32, quantity: u32) -> Fill
-    ensures { result ≡ fill (λ _ _. price) buy.now sell.now quantity }
-{
-    Fill {
-        buy: buy.number,
-        sell: sell.number,
-        buyer: buy.member,
-        seller: sell.member,
-        price,
-        quantity,
-    }
-}
-
 // The fill of an entry's order with a resting one, at the price of the latter.
 fn fill_at(side: Side, o: &Order, x: &Order, quantity: u32) -> Fill
     ensures { result ≡ fill_at side o.now x.now quantity }
 {
     match side {
-        Side::Buy => fill_of(o, x, x.price, quantity),
-        Side::Sell => fill_of(x, o, x.price, quantity),
+        Side::Buy => Fill::between(o, x, x.price, quantity),
+        Side::Sell => Fill::between(x, o, x.price, quantity),
     }
 }
 
@@ -45,12 +31,8 @@ fn reduced_by(o: &Order, quantity: u32) -> Option<Order>
 {
     if quantity < o.remaining {
         Some(Order {
-            number: o.number,
-            member: o.member,
-            side: o.side,
-            price: o.price,
-            quantity: o.quantity,
             remaining: o.remaining - quantity,
+            ..*o
         })
     } else {
         None
@@ -86,7 +68,7 @@ fn deal_pair<L: Places<Record = Order>, R: Priority>(
     let quantity = left.min(buy.remaining).min(sell.remaining);
     put(list, i, reduced_by(&buy, quantity));
     put(list, k, reduced_by(&sell, quantity));
-    Some(fill_of(&buy, &sell, price, quantity))
+    Some(Fill::between(&buy, &sell, price, quantity))
 }
 
 // One fill of what is left to deal, if there is anybody to deal with.

@@ -1,23 +1,13 @@
 ghost use Rattle.std.specs.Prelude.{◌≡◌, ◌+◌, ◌≤◌, length};
 ghost use Rattle.ranking.specs.Search.{FirstIn};
 ghost use Rattle.matching.specs.Weights.{capped, place_weight, held_weight};
-ghost use Rattle.matching.specs.Scans.{AllVacant, VacantIn, NumberedIn, opposite, tonnes_if, same_side, ahead_of, RankedIn};
+ghost use Rattle.matching.specs.Scans.{VacantIn, NumberedIn, opposite, tonnes_if, ahead_of, RankedIn};
 
 use orders::order::Order;
 use orders::request::Side;
 use ranking::finding::{Test, first_where};
-use ranking::places::Places;
+use ranking::places::{Places, each};
 use ranking::rank::Priority;
-
-// Makes every place vacant.
-pub fn clear<L: Places<Record = Order>>(list: &mut L)
-    ensures length { length (L.contents list.new) ≡ length (L.contents list.old) }
-    ensures vacant { AllVacant (L.contents list.new) (length (L.contents list.old)) }
-{
-    for i in 0..list.len() {
-        list.vacate(i);
-    }
-}
 
 // A vacant place, if there is one.
 pub fn vacant<L: Places<Record = Order>>(list: &L) -> Option<usize>
@@ -49,12 +39,7 @@ pub fn numbered<L: Places<Record = Order>>(list: &L, number: u32) -> Option<(usi
 fn is_opposite(side: Side, limit: u32, o: &Order) -> bool
     ensures { result ≡ opposite side limit o.now }
 {
-    match (side, o.side) {
-        (Side::Buy, Side::Buy) => false,
-        (Side::Buy, Side::Sell) => o.price <= limit,
-        (Side::Sell, Side::Buy) => limit <= o.price,
-        (Side::Sell, Side::Sell) => false,
-    }
+    o.side == side.opposite() && side.reaches(limit, o.price)
 }
 
 // Another order's tonnes on top, if it rests opposite; a sum past the largest number stays there.
@@ -78,8 +63,8 @@ pub fn tonnes_opposite<L: Places<Record = Order>>(list: &L, side: Side, limit: u
     ensures { result ≡ capped (held_weight (tonnes_if (opposite side limit)) (L.contents list.now)) }
 {
     let mut sum = 0;
-    for i in 0..list.len() {
-        sum = add_opposite(sum, side, limit, list.get(i));
+    for place in each(list) {
+        sum = add_opposite(sum, side, limit, place);
     }
     sum
 }
@@ -111,17 +96,6 @@ pub fn first_opposite<L: Places<Record = Order>, R: Priority>(
     first_where(list, rule, &Opposite { side, limit })
 }
 
-fn is_same_side(a: Side, b: Side) -> bool
-    ensures { result ≡ same_side a b }
-{
-    match (a, b) {
-        (Side::Buy, Side::Buy) => true,
-        (Side::Buy, Side::Sell) => false,
-        (Side::Sell, Side::Buy) => false,
-        (Side::Sell, Side::Sell) => true,
-    }
-}
-
 // 1 for an order of the same side that is ahead, and 0 for any other place.
 fn one_ahead<R: Priority>(rule: &R, o: &Order, place: Option<Order>) -> usize
     ensures weighs { result ≡ place_weight (ahead_of (R.Ranking.ahead rule.now) o.now) place }
@@ -130,7 +104,7 @@ fn one_ahead<R: Priority>(rule: &R, o: &Order, place: Option<Order>) -> usize
     match place {
         None => 0,
         Some(y) => {
-            if is_same_side(o.side, y.side) && rule.is_ahead(&y, o) {
+            if o.side == y.side && rule.is_ahead(&y, o) {
                 1
             } else {
                 0
@@ -144,6 +118,7 @@ fn count_ahead<L: Places<Record = Order>, R: Priority>(list: &L, rule: &R, o: &O
     ensures { result ≡ held_weight (ahead_of (R.Ranking.ahead rule.now) o.now) (L.Places.contents list.now) }
 {
     let mut n: usize = 0;
+    // By index, since the proof that the count fits needs to know how many places there are.
     for i in 0..list.len() {
         n += one_ahead(rule, o, list.get(i));
     }
@@ -161,7 +136,7 @@ pub fn with_ahead<L: Places<Record = Order>, R: Priority>(
 {
     for i in 0..list.len() {
         if let Some(o) = list.get(i) {
-            if is_same_side(side, o.side) {
+            if o.side == side {
                 let n = count_ahead(list, rule, &o);
                 if n < rank && rank - n == 1 {
                     return Some(o);
