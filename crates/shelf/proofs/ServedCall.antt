@@ -7,7 +7,7 @@ use Rattle.orders.specs.declared.order.Phase.{Phase}
 use Rattle.orders.specs.declared.order.Phase.TheVariants.{Dealing}
 use Rattle.orders.specs.declared.answer.Answer.{Answer}
 use Rattle.orders.specs.declared.answer.Answer.TheVariants.{Called}
-use Rattle.orders.specs.declared.refusal.Cause.{Cause}
+use Rattle.orders.specs.declared.refusal.Refusal.{Refusal}
 use Rattle.orders.specs.declared.refusal.Cause.TheVariants.{FillListShort, WrongPhase}
 use Rattle.plain.specs.Rule.{Rule}
 use Rattle.plain.specs.Price.{call_volume}
@@ -18,9 +18,10 @@ use Rattle.plain.proofs.Capacity.{always_within_capacity}
 use Rattle.plain.proofs.StaysSound.{always_sound}
 use Rattle.venue.specs.Meaning.{Served, book_setup}
 use Rattle.matching.specs.declared.dealing.Deal.TheVariants.{Call as CallDeal}
-use Rattle.matching.specs.declared.quote.Quote.{Quote}
+use Rattle.quotes.specs.declared.quote.Quote.{Quote}
+use Rattle.quotes.specs.Quotes.{called_price}
 use Rattle.shelf.specs.HeldGate.{call_refusal}
-use Rattle.matching.specs.Quotes.{best_quote, called_price}
+use Rattle.matching.specs.Quotes.{best_quote}
 use Rattle.matching.specs.Deals.{RunOut}
 use Rattle.shelf.specs.Stands.{Stands}
 use Rattle.matching.proofs.RunsOut.{Dealt, runs_out}
@@ -38,9 +39,9 @@ module _ {rule : Rule} {ps : List (Option Order)} {phase : Phase} {next : ℕ} {
   refused : call_refusal ps phase (length lent) ≡ refused_by (length ps) b Call (length lent)
   refused = ap (λ p. first (when (ltb (length lent) (length ps)) FillListShort) (when (is_dealing p) WrongPhase)) stands.shows.phase_is
 
-  pub call_not : (c : Cause) → Some c ≡ call_refusal ps phase (length lent) →
-      Served (book_setup rule (length ps)) (Stands rule ps phase next is_fresh) t Call lent lent (Err (record { cause = c; height = Some 0 }))
-  call_not c h = served_not t stands Call lent c (sym (h ∙ refused))
+  pub call_not : (f : Refusal) → Some f.cause ≡ call_refusal ps phase (length lent) → f.height ≡ Some 0 →
+      Served (book_setup rule (length ps)) (Stands rule ps phase next is_fresh) t Call lent lent (Err f)
+  call_not f h height = served_not t stands Call lent f (sym (h ∙ refused)) height
 
   module _ (admits : None ≡ call_refusal ps phase (length lent)) (qs : List (Option Order)) (list : List Fill) (r : ℕ × ℕ) where
     admitted : refused_by (length ps) b Call (length lent) ≡ None
