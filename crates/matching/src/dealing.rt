@@ -89,53 +89,67 @@ fn deal_one<L: Places<Record = Order>, R: Priority>(
     }
 }
 
-// Deals so many tonnes one fill after another; says how many fills there are, and what is left.
+// How many fills a deal came to, and how many of its tonnes are left.
+#[derive(Clone, Copy)]
+pub struct Tally {
+    pub count: usize,
+    pub left: u32,
+}
+
+// Deals so many tonnes one fill after another, into a list of fills.
 fn deal_out<L: Places<Record = Order>, R: Priority>(
     list: &mut L,
     rule: &R,
     deal: &Deal,
     tonnes: u32,
     fills: &mut [Fill],
-) -> (usize, u32)
+) -> Tally
     ensures { RunOut (R.Ranking.ahead rule.now) deal.now tonnes (L.Places.contents list.old) fills.old (L.Places.contents list.new) fills.new result }
 {
-    let mut left = tonnes;
-    for k in 0..fills.len() {
-        match deal_one(list, rule, deal, left) {
-            None => return (k, left),
-            Some(f) => {
-                fills[k] = f;
-                left -= f.quantity;
+    let mut tally = Tally {
+        count: 0,
+        left: tonnes,
+    };
+    for place in fills.iter_mut() {
+        match deal_one(list, rule, deal, tally.left) {
+            None => return tally,
+            Some(fill) => {
+                *place = fill;
+                tally.count += 1;
+                tally.left -= fill.quantity;
             }
         }
     }
-    (fills.len(), left)
+    tally
 }
 
-// Deals an entry's order, if the book is dealing; says how many fills there are, and what is left.
+// Deals an entry's order, if the book is dealing.
 pub fn deal_entry<L: Places<Record = Order>, R: Priority>(
     list: &mut L,
     rule: &R,
     phase: Phase,
     o: Order,
     fills: &mut [Fill],
-) -> (usize, u32)
+) -> Tally
     ensures { DealtNow (R.Ranking.ahead rule.now) phase o (L.Places.contents list.old) fills.old (L.Places.contents list.new) fills.new result }
 {
     match phase {
-        Phase::Gathering => (0, o.remaining),
+        Phase::Gathering => Tally {
+            count: 0,
+            left: o.remaining,
+        },
         Phase::Dealing => deal_out(list, rule, &Deal::Entry(o), o.remaining, fills),
     }
 }
 
-// Deals tonnes between buys and sells at the price of a call; says how many fills there are.
+// Deals tonnes between buys and sells at the price of a call.
 pub fn deal_call<L: Places<Record = Order>, R: Priority>(
     list: &mut L,
     rule: &R,
     price: u32,
     tonnes: u32,
     fills: &mut [Fill],
-) -> (usize, u32)
+) -> Tally
     ensures { RunOut (R.Ranking.ahead rule.now) (Call price) tonnes (L.Places.contents list.old) fills.old (L.Places.contents list.new) fills.new result }
 {
     deal_out(list, rule, &Deal::Call(price), tonnes, fills)

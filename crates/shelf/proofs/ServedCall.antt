@@ -17,6 +17,7 @@ use Rattle.plain.specs.Gate.{is_dealing, refused_by}
 use Rattle.plain.proofs.Capacity.{always_within_capacity}
 use Rattle.plain.proofs.StaysSound.{always_sound}
 use Rattle.venue.specs.Meaning.{Served, book_setup}
+use Rattle.matching.specs.declared.dealing.Tally.{Tally}
 use Rattle.matching.specs.declared.dealing.Deal.TheVariants.{Call as CallDeal}
 use Rattle.quotes.specs.declared.quote.Quote.{Quote}
 use Rattle.quotes.specs.Quotes.{called_price}
@@ -43,7 +44,7 @@ module _ {rule : Rule} {ps : List (Option Order)} {phase : Phase} {next : ℕ} {
       Served (book_setup rule (length ps)) (Stands rule ps phase next is_fresh) t Call lent lent (Err f)
   call_not f h height = served_not t stands Call lent f (sym (h ∙ refused)) height
 
-  module _ (admits : None ≡ call_refusal ps phase (length lent)) (qs : List (Option Order)) (list : List Fill) (r : ℕ × ℕ) where
+  module _ (admits : None ≡ call_refusal ps phase (length lent)) (qs : List (Option Order)) (list : List Fill) (r : Tally) where
     admitted : refused_by (length ps) b Call (length lent) ≡ None
     admitted = sym (admits ∙ refused)
 
@@ -55,7 +56,7 @@ module _ {rule : Rule} {ps : List (Option Order)} {phase : Phase} {next : ℕ} {
         (le_refl b.next) qs lent list r out ((always_within_capacity rule (length ps) t stands.admitted).room Call (length lent) admitted)
 
     -- the call is served
-    pub call_so : (q : Quote) (p count : ℕ) → q ≡ best_quote ps → p ≡ called_price q → count ≡ min r.0 4294967295 → RunOut rule (CallDeal p) q.volume ps lent qs list r →
+    pub call_so : (q : Quote) (p count : ℕ) → q ≡ best_quote ps → p ≡ called_price q → count ≡ min r.count 4294967295 → RunOut rule (CallDeal p) q.volume ps lent qs list r →
         Served (book_setup rule (length ps)) (Stands rule qs Dealing next false) t Call lent list (Ok (call_answer p q.volume count))
     call_so q p count best called counted out =
         let all = always_within_capacity rule (length ps) t stands.admitted in

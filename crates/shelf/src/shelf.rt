@@ -97,15 +97,15 @@ impl<L: Places<Record = Order>, R: Priority> Shelf<L, R> {
         let number = self.next;
         admit_entry(&self.list, self.phase, number, e, fills.len()).map_err(|cause| cause.at(0))?;
         let order = e.order(number);
-        let (count, left) = deal_entry(&mut self.list, &self.rule, self.phase, order, fills);
+        let tally = deal_entry(&mut self.list, &self.rule, self.phase, order, fills);
         let rest = Order {
-            remaining: left,
+            remaining: tally.left,
             ..order
         };
         lay(&mut self.list, e.life(), rest);
         self.next = number + 1;
         self.is_new = false;
-        let entered = Entered::of(e, number, count_of(count), left);
+        let entered = Entered::of(e, number, count_of(tally.count), tally.left);
         Ok(Answer::Entered(entered))
     }
 
@@ -117,13 +117,13 @@ impl<L: Places<Record = Order>, R: Priority> Shelf<L, R> {
         admit_call(&self.list, self.phase, fills.len()).map_err(|cause| cause.at(0))?;
         let best = best_quote(&self.list);
         let price = best.called_price();
-        let (count, _) = deal_call(&mut self.list, &self.rule, price, best.volume, fills);
+        let tally = deal_call(&mut self.list, &self.rule, price, best.volume, fills);
         self.phase = Phase::Dealing;
         self.is_new = false;
         Ok(Answer::Called(Called {
             price,
             volume: best.volume,
-            fills: count_of(count),
+            fills: count_of(tally.count),
         }))
     }
 

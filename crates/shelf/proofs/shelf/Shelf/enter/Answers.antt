@@ -21,17 +21,17 @@ returns g c =
     let next = c.args.self.now.next in
     let rule = g.R.Ranking.ahead c.args.self.now.rule in
     let lent = c.args.fills.now in
-    let list = c.deal_entry-count.new.fills in
-    let qs = g.L.Places.contents c.deal_entry-count.new.list in
+    let list = c.deal_entry-tally.new.fills in
+    let qs = g.L.Places.contents c.deal_entry-tally.new.list in
     let rs = g.L.Places.contents c.lay.new.list in
-    let r = c.deal_entry-count.result in
+    let r = c.deal_entry-tally.result in
     let o = left_of e next e.quantity in
-    let dealt : DealtNow rule phase o ps lent qs list r = subst (λ x. DealtNow rule phase x ps lent qs list r) c.order-order.ensures c.deal_entry-count.ensures in
-    let laid : Laid e.life (left_of e next r.1) qs rs =
-    subst (λ l. Laid l (left_of e next r.1) qs rs) c.life.ensures (subst (λ x. Laid c.life.result (with_remaining x r.1) qs rs) c.order-order.ensures c.lay.ensures.laid) in
+    let dealt : DealtNow rule phase o ps lent qs list r = subst (λ x. DealtNow rule phase x ps lent qs list r) c.order-order.ensures c.deal_entry-tally.ensures in
+    let laid : Laid e.life (left_of e next r.left) qs rs =
+    subst (λ l. Laid l (left_of e next r.left) qs rs) c.life.ensures (subst (λ x. Laid c.life.result (with_remaining x r.left) qs rs) c.order-order.ensures c.lay.ensures.laid) in
     record {
       same = record { same_rule = refl; same_places = laid.same_length ∙ now_length rule phase o ps lent qs list r dealt };
       served = λ t s.
           entry_dealt t s e lent list (search rules) qs r dealt rs (Entered c.of-entered.result) laid
-          (ap (λ a. Entered a) c.of-entered.ensures ∙ ap (λ k. entry_answer e next k r.1) c.count_of.ensures);
+          (ap (λ a. Entered a) c.of-entered.ensures ∙ ap (λ k. entry_answer e next k r.left) c.count_of.ensures);
     }
