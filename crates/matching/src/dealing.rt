@@ -16,10 +16,10 @@ pub enum Deal {
 }
 
 // The fill of an entry's order with a resting one, at the price of the latter.
-fn fill_at(side: Side, o: &Order, x: &Order, quantity: u32) -> Fill
-    ensures { result ≡ fill_at side o.now x.now quantity }
+fn fill_at(o: &Order, x: &Order, quantity: u32) -> Fill
+    ensures { result ≡ fill_at o.now.side o.now x.now quantity }
 {
-    match side {
+    match o.side {
         Side::Buy => Fill::between(o, x, x.price, quantity),
         Side::Sell => Fill::between(x, o, x.price, quantity),
     }
@@ -51,7 +51,7 @@ fn deal_opposite<L: Places<Record = Order>, R: Priority>(
     let (i, x) = first_opposite(list, rule, o.side, o.price)?;
     let quantity = left.min(x.remaining);
     put(list, i, reduced_by(&x, quantity));
-    Some(fill_at(o.side, o, &x, quantity))
+    Some(fill_at(o, &x, quantity))
 }
 
 // Deals tonnes between the first-ranked buy and the first-ranked sell at a price, if any.

@@ -2,7 +2,7 @@ ghost use Rattle.std.specs.Prelude.{List, length, MatchResult};
 ghost use Rattle.orders.specs.declared.order.Fill.{Fill};
 ghost use Rattle.orders.specs.declared.request.Request.TheVariants.{Enter, Withdraw, Call, Halt};
 ghost use Rattle.venue.specs.Books.{Opened, HandedBack};
-ghost use Rattle.shelf.specs.Stands.{ShelfStands, SameShelf, ServedFrom, shelf_setup};
+ghost use Rattle.shelf.specs.Stands.{ShelfStands, Handles, shelf_setup};
 
 use crate::entering::{count_of, lay};
 use crate::gate::{admit_call, admit_entry};
@@ -56,8 +56,7 @@ impl<L: Places<Record = Order>, R: Priority> Shelf<L, R> {
 
     // Takes an order of the member away.
     fn withdraw(&mut self, c: &Cancel) -> Result<Answer, Refusal>
-        ensures same { SameShelf L.Places.contents self.old self.new }
-        ensures served { (lent : List Fill) → ServedFrom L.Places.contents R.Ranking.ahead self.old self.new (Withdraw c.now) lent lent result }
+        ensures { (lent : List Fill) → Handles L.Places.contents R.Ranking.ahead self.old self.new (Withdraw c.now) lent lent result }
     {
         let number = c.number();
         match numbered(&self.list, number) {
@@ -76,8 +75,7 @@ impl<L: Places<Record = Order>, R: Priority> Shelf<L, R> {
 
     // Goes back to gathering.
     fn halt(&mut self) -> Result<Answer, Refusal>
-        ensures same { SameShelf L.Places.contents self.old self.new }
-        ensures served { (lent : List Fill) → ServedFrom L.Places.contents R.Ranking.ahead self.old self.new Halt lent lent result }
+        ensures { (lent : List Fill) → Handles L.Places.contents R.Ranking.ahead self.old self.new Halt lent lent result }
     {
         match self.phase {
             Phase::Gathering => Err(Cause::WrongPhase.at(0)),
@@ -91,8 +89,7 @@ impl<L: Places<Record = Order>, R: Priority> Shelf<L, R> {
 
     // Enters an order: deals what it can while dealing, and rests with what is left, unless it is killed.
     fn enter(&mut self, e: &Entry, fills: &mut [Fill]) -> Result<Answer, Refusal>
-        ensures same { SameShelf L.Places.contents self.old self.new }
-        ensures served { ServedFrom L.Places.contents R.Ranking.ahead self.old self.new (Enter e.now) fills.old fills.new result }
+        ensures { Handles L.Places.contents R.Ranking.ahead self.old self.new (Enter e.now) fills.old fills.new result }
     {
         let number = self.next;
         admit_entry(&self.list, self.phase, number, e, fills.len()).map_err(|cause| cause.at(0))?;
@@ -111,8 +108,7 @@ impl<L: Places<Record = Order>, R: Priority> Shelf<L, R> {
 
     // Deals at the price that deals most, and goes on to dealing.
     fn call(&mut self, fills: &mut [Fill]) -> Result<Answer, Refusal>
-        ensures same { SameShelf L.Places.contents self.old self.new }
-        ensures served { ServedFrom L.Places.contents R.Ranking.ahead self.old self.new Call fills.old fills.new result }
+        ensures { Handles L.Places.contents R.Ranking.ahead self.old self.new Call fills.old fills.new result }
     {
         admit_call(&self.list, self.phase, fills.len()).map_err(|cause| cause.at(0))?;
         let best = best_quote(&self.list);
@@ -128,8 +124,7 @@ impl<L: Places<Record = Order>, R: Priority> Shelf<L, R> {
     }
 
     fn handle(&mut self, request: &Request, fills: &mut [Fill]) -> Result<Answer, Refusal>
-        ensures same { SameShelf L.Places.contents self.old self.new }
-        ensures served { ServedFrom L.Places.contents R.Ranking.ahead self.old self.new request.now fills.old fills.new result }
+        ensures { Handles L.Places.contents R.Ranking.ahead self.old self.new request.now fills.old fills.new result }
     {
         match request {
             Request::Enter(e) => self.enter(e, fills),
@@ -160,11 +155,7 @@ impl<L: Places<Record = Order>, R: Priority> Venue for Shelf<L, R> {
     }
 
     fn next_number(&self) -> Option<u32> {
-        if self.next <= 999999 {
-            Some(self.next)
-        } else {
-            None
-        }
+        (self.next <= 999999).then_some(self.next)
     }
 
     fn is_fresh(&self) -> bool {

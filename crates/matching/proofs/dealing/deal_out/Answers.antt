@@ -10,7 +10,7 @@ loop-place-preserved g c =
     let tally = c.loop-place.tally in
     let at = c.loop-place.invariant.1 in (
       rw (← at)
-      (run_more c.args.fills.now tally.count tally.left (g.L.Places.contents c.loop-place.list) (g.L.Places.contents c.deal_one.new.list)
-      c.loop-place.fills c.in-Some.fill (omega (arith, at, c.loop-place-test.true)) c.loop-place.invariant.0 c.in-Some.ensures),
+          (run_more c.args.fills.now tally.count tally.left (g.L.Places.contents c.loop-place.list) (g.L.Places.contents c.deal_one.new.list)
+          c.loop-place.fills c.in-Some.fill (omega (arith, at, c.loop-place-test.true)) c.loop-place.invariant.0 c.in-Some.ensures),
       omega (arith, at),
     )

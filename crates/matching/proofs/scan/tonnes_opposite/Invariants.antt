@@ -5,5 +5,5 @@ use Rattle.matching.proofs.scan.tonnes_opposite.Given as goal
 
 abbrev pub invariant-loop-place : goal.invariant-loop-place
 invariant-loop-place g l =
-    (capped (l.sum + held_weight (tonnes_if (opposite l.side l.limit)) (drop l.place-iterator.next (g.L.Places.contents l.place-iterator.list.now))) ≡
-    capped (held_weight (tonnes_if (opposite l.side l.limit)) (g.L.Places.contents l.list))) × (l.sum ≤ 4294967295)
+    (capped (l.sum + held_weight (tonnes_if (opposite l.wanted.side l.wanted.limit)) (drop l.place-iterator.next (g.L.Places.contents l.place-iterator.list.now))) ≡
+    capped (held_weight (tonnes_if (opposite l.wanted.side l.wanted.limit)) (g.L.Places.contents l.list))) × (l.sum ≤ 4294967295)

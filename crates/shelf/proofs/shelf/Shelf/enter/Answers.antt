@@ -8,10 +8,13 @@ use Rattle.shelf.proofs.ServedEntry.{entry_not}
 use Rattle.shelf.proofs.DealtEntry.{now_length, entry_dealt}
 use Rattle.shelf.proofs.shelf.Shelf.enter.Goals as goal
 
-pub returns-in_err-map_err-clause-served : goal.returns-in_err-map_err-clause-served
-returns-in_err-map_err-clause-served g c = λ t s.
+pub returns-in_err-map_err : goal.returns-in_err-map_err
+returns-in_err-map_err g c =
     let p = err_from_is_err_and c.from_residual.result c.from_residual.ensures.1 in
-    rw (p.1, p.2) (entry_not t s c.args.e.now c.args.fills.now c.in_err-map_err.field-0.0 (search rules) (search rules))
+    record {
+      same = record { same_rule = refl; same_places = refl };
+      served = λ t s. rw (p.1, p.2) (entry_not t s c.args.e.now c.args.fills.now c.in_err-map_err.field-0.0 (search rules) (search rules));
+    }
 
 pub returns : goal.returns
 returns g c =

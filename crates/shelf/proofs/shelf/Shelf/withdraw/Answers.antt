@@ -11,22 +11,26 @@ use Rattle.shelf.proofs.Cancelled.{cancel_none, cancel_another, cancel_his, canc
 use Rattle.shelf.proofs.shelf.Shelf.withdraw.Goals as goal
 use Rattle.shelf.proofs.shelf.Shelf.withdraw.Goals.{in_default-via-in-Some+else-o-member, in_default-via-in_default}
 
-pub returns-in_default-clause-served : goal.returns-in_default-clause-served
-returns-in_default-clause-served g c = λ lent t s.
-    let b = after (g.R.Ranking.ahead c.args.self.now.rule) t in
+pub returns-in_default : goal.returns-in_default
+returns-in_default g c =
     let ps = g.L.Places.contents c.args.self.now.list in
-    let sound = always_sound (g.R.Ranking.ahead c.args.self.now.rule) s.lawful t in
     let found = subst (λ n. NumberedIn n ps (length ps) c.numbered.result) c.number-number.ensures c.numbered.ensures in
     let cause = ap (λ k. Some k) (sym c.at.ensures.0) in
-    served_not t s (Withdraw c.args.c.now) lent c.at.result
-    (elim c.in_default.branch [
-      | in_default-via-in-Some+else-o-member w ↦
-          cancel_another b sound s.shows c.args.c.now (w.in-Some.i, w.in-Some.o) (subst (NumberedIn c.args.c.now.number ps (length ps)) w.in-Some.is found)
-          (λ e. w.if-o-member.false (e ∙ sym w.member.ensures.value)) (length lent) ∙ cause
-      | in_default-via-in_default w ↦
-          cancel_none b sound s.shows c.args.c.now (subst (NumberedIn c.args.c.now.number ps (length ps)) w.in_default.is found) (length lent) ∙ cause
-    ])
-    c.at.ensures.1
+    λ lent. record {
+      same = record { same_rule = refl; same_places = refl };
+      served = λ t s.
+          let b = after (g.R.Ranking.ahead c.args.self.now.rule) t in
+          let sound = always_sound (g.R.Ranking.ahead c.args.self.now.rule) s.lawful t in
+          served_not t s (Withdraw c.args.c.now) lent c.at.result
+          (elim c.in_default.branch [
+            | in_default-via-in-Some+else-o-member w ↦
+                cancel_another b sound s.shows c.args.c.now (w.in-Some.i, w.in-Some.o) (subst (NumberedIn c.args.c.now.number ps (length ps)) w.in-Some.is found)
+                (λ e. w.if-o-member.false (e ∙ sym w.member.ensures.value)) (length lent) ∙ cause
+            | in_default-via-in_default w ↦
+                cancel_none b sound s.shows c.args.c.now (subst (NumberedIn c.args.c.now.number ps (length ps)) w.in_default.is found) (length lent) ∙ cause
+          ])
+          c.at.ensures.1;
+    }
 
 pub returns-in-Some : goal.returns-in-Some
 returns-in-Some g c =
@@ -35,9 +39,9 @@ returns-in-Some g c =
     let s0 : ℕ × Order = (c.in-Some.i, c.in-Some.o) in
     let same : length (g.L.Places.contents c.vacate.new.self) ≡ length ps = ap length c.vacate.ensures ∙ length-set ps c.in-Some.i None in
     let found = subst (λ n. NumberedIn n ps (length ps) (Some s0)) c.number-number.ensures c.in-Some.ensures in
-    record {
+    λ lent. record {
       same = record { same_rule = refl; same_places = same };
-      served = λ lent t s.
+      served = λ t s.
           let sound = always_sound rule s.lawful t in
           served_so t s (Withdraw c.args.c.now) lent _ _ _ _ _
           (cancel_his (after rule t) sound s.shows c.args.c.now s0 found (c.if-o-member.true ∙ c.member.ensures.value) (length lent))
