@@ -2,5 +2,4 @@
 #![tactic(auto)]
 
 mod entering;
-mod gate;
 pub mod shelf;

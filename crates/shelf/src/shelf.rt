@@ -4,8 +4,9 @@ ghost use Rattle.orders.specs.declared.request.Request.TheVariants.{Enter, Withd
 ghost use Rattle.venue.specs.Books.{Opened, HandedBack};
 ghost use Rattle.shelf.specs.Stands.{ShelfStands, Handles, shelf_setup};
 
+mod gate;
+
 use crate::entering::{count_of, lay};
-use crate::gate::{admit_call, admit_entry};
 use matching::dealing::{deal_call, deal_entry};
 use matching::quote::best_quote;
 use matching::scan::{numbered, with_ahead};
@@ -92,7 +93,8 @@ impl<L: Places<Record = Order>, R: Priority> Shelf<L, R> {
         ensures { Handles L.Places.contents R.Ranking.ahead self.old self.new (Enter e.now) fills.old fills.new result }
     {
         let number = self.next;
-        admit_entry(&self.list, self.phase, number, e, fills.len()).map_err(|cause| cause.at(0))?;
+        self.admit_entry(e, fills.len())
+            .map_err(|cause| cause.at(0))?;
         let order = e.order(number);
         let tally = deal_entry(&mut self.list, &self.rule, self.phase, order, fills);
         let rest = Order {
@@ -110,7 +112,7 @@ impl<L: Places<Record = Order>, R: Priority> Shelf<L, R> {
     fn call(&mut self, fills: &mut [Fill]) -> Result<Answer, Refusal>
         ensures { Handles L.Places.contents R.Ranking.ahead self.old self.new Call fills.old fills.new result }
     {
-        admit_call(&self.list, self.phase, fills.len()).map_err(|cause| cause.at(0))?;
+        self.admit_call(fills.len()).map_err(|cause| cause.at(0))?;
         let best = best_quote(&self.list);
         let price = best.called_price();
         let tally = deal_call(&mut self.list, &self.rule, price, best.volume, fills);
