@@ -23,6 +23,3 @@ module _ (Wanted : Order → Type 0) (all : List (Option Order)) where
       | inr later ↦ later
     ],
   )
-
-  pub seen_all : Seen Wanted all [] → (y : Order) → HeldAt all y → Wanted y → ⊥
-  seen_all seen y at wanted = let found = seen.1 y at wanted in let z : found.0 < 0 = found.1 in omega arith

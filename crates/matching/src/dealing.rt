@@ -9,6 +9,7 @@ use ranking::places::{Places, put};
 use ranking::rank::Priority;
 
 // What is dealt: an entry's order with those opposite, or the buys with the sells at the price of a call.
+// Not a trait with a step of its own, since the contracts tell what is still to come of a deal by which of the two it is.
 #[derive(Clone, Copy)]
 pub enum Deal {
     Entry(Order),
@@ -40,6 +41,7 @@ fn reduced_by(o: &Order, quantity: u32) -> Option<Order>
 }
 
 // Deals tonnes of an entry's order with the first-ranked order opposite, if any.
+// The list and the rule stay two arguments, here and below: of one value of both, each contract would have to say that its rule stays.
 fn deal_opposite<L: Places<Record = Order>, R: Priority>(
     list: &mut L,
     rule: &R,

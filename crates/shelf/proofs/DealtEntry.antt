@@ -24,7 +24,7 @@ use Rattle.shelf.specs.Entering.{left_of, Laid, entry_answer}
 use Rattle.matching.specs.Deals.{DealtNow}
 use Rattle.shelf.specs.Stands.{Stands}
 use Rattle.matching.proofs.Weighed.{weight_ones}
-use Rattle.shelf.proofs.Gates.{entry_refused, admits_open}
+use Rattle.shelf.proofs.Gates.{entry_refused, admits_room}
 use Rattle.matching.proofs.Turns.{to_come}
 use Rattle.matching.proofs.RunsOut.{run_length, runs_out}
 use Rattle.shelf.proofs.ServedEntry.{DealtIn, gathered, entry_so}
@@ -49,7 +49,7 @@ module _ {rule : Rule} {ps : List (Option Order)} {phase : Phase} {next : ℕ} {
   b = after rule t
 
   room : is_full ps ≡ false
-  room = (admits_open ps phase next e (length lent) admits).room
+  room = admits_room ps phase next e (length lent) admits
 
   -- the fills fit the lent list
   fits : length (entry_fills b.phase e b) ≤ length lent

@@ -40,10 +40,6 @@ module _ {rule : Rule} {ps : List (Option Order)} {phase : Phase} {next : ℕ} {
   refused : call_refusal ps phase (length lent) ≡ refused_by (length ps) b Call (length lent)
   refused = ap (λ p. first (when (ltb (length lent) (length ps)) FillListShort) (when (is_dealing p) WrongPhase)) stands.shows.phase_is
 
-  pub call_not : (f : Refusal) → Some f.cause ≡ call_refusal ps phase (length lent) → f.height ≡ Some 0 →
-      Served (book_setup rule (length ps)) (Stands rule ps phase next is_fresh) t Call lent lent (Err f)
-  call_not f h height = served_not t stands Call lent f (sym (h ∙ refused)) height
-
   module _ (admits : None ≡ call_refusal ps phase (length lent)) (qs : List (Option Order)) (list : List Fill) (r : Tally) where
     admitted : refused_by (length ps) b Call (length lent) ≡ None
     admitted = sym (admits ∙ refused)

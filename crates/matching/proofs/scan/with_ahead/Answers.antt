@@ -4,7 +4,7 @@ use Rattle.orders.specs.declared.order.Order.{Order}
 use Rattle.matching.specs.Weights.{held_weight}
 use Rattle.matching.specs.Scans.{ahead_of, HasRank}
 use Rattle.matching.proofs.Alike.{same_side_lem}
-use Rattle.matching.proofs.Seen.{seen_one, seen_more, seen_all}
+use Rattle.matching.proofs.Seen.{seen_one, seen_more}
 use Rattle.matching.proofs.scan.with_ahead.Goals as goal
 use Rattle.matching.proofs.scan.with_ahead.Goals.{else-eq-via-then-eq+else-count_ahead-ahead, else-eq-via-else-eq}
 
