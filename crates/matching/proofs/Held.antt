@@ -1,5 +1,5 @@
 -- What the orders held in places weigh. Assumes nothing.
-use Rattle.std.proofs.Common.{◌≡◌, ℕ, zero, suc, ◌+◌, ◌<◌, ◌≤◌, ◌≢◌, List, [], ◌∷◌, ◌++◌, length, get_or, replicate, take, set, refl, zero-le, arith, Option, None, Some}
+use Rattle.std.proofs.Common.{◌≡◌, ℕ, zero, suc, ◌+◌, ◌<◌, ◌≤◌, List, [], ◌∷◌, ◌++◌, length, get_or, replicate, take, set, refl, zero-le, arith, Option, None, Some}
 use Rattle.std.proofs.lemmas.List.{take_more}
 use Rattle.orders.specs.declared.order.Order.{Order}
 use Rattle.matching.specs.Weights.{Weight, place_weight, held_weight}

@@ -1,5 +1,5 @@
 -- Places gone through from the first on: what is wanted and not found yet is among those left. Assumes nothing.
-use Rattle.std.proofs.Common.{◌≡◌, ℕ, zero, suc, ◌<◌, List, [], ◌∷◌, length, refl, inl, inr, arith, Option, Some, None, ◌⊎◌}
+use Rattle.std.proofs.Common.{◌≡◌, ℕ, zero, suc, ◌<◌, List, ◌∷◌, length, refl, inl, inr, arith, Option, Some, ◌⊎◌}
 use Rattle.orders.specs.declared.order.Order.{Order}
 use Rattle.ranking.specs.Search.{Holds}
 use Rattle.matching.proofs.OnSide.{HeldAt, held_later}
