@@ -1,9 +1,8 @@
 -- What the orders held in places weigh. Assumes nothing.
-use Rattle.std.proofs.Common.{◌≡◌, ℕ, zero, suc, ◌+◌, ◌<◌, ◌≤◌, ◌≢◌, List, [], ◌∷◌, ◌++◌, length, get_or, take, set, refl, zero-le, arith, get_or-set_other, get_or-set_same, below_more, Option, None, Some}
+use Rattle.std.proofs.Common.{◌≡◌, ℕ, zero, suc, ◌+◌, ◌<◌, ◌≤◌, List, [], ◌∷◌, ◌++◌, length, get_or, replicate, take, set, refl, zero-le, arith, Option, None, Some}
 use Rattle.std.proofs.lemmas.List.{take_more}
 use Rattle.orders.specs.declared.order.Order.{Order}
 use Rattle.matching.specs.Weights.{Weight, place_weight, held_weight}
-use Rattle.matching.specs.Scans.{AllVacant}
 
 module _ (w : Weight) where
   held_append : (ps qs : List (Option Order)) → held_weight w (ps ++ qs) ≡ held_weight w ps + held_weight w qs
@@ -22,12 +21,9 @@ module _ (w : Weight) where
   held_set (x ∷ ps) (suc i) p h = omega (arith, held_set ps i p (omega arith))
 
   -- all vacant
-  pub held_none : (ps : List (Option Order)) → AllVacant ps (length ps) → held_weight w ps ≡ 0
-  held_none [] h = refl
-  held_none (p ∷ ps) h =
-      let here : p ≡ None = h 0 (omega arith) in
-      let rest : held_weight w ps ≡ 0 = held_none ps (λ i lt. h (suc i) (omega arith)) in
-      rw here (omega arith)
+  pub held_none : (n : ℕ) → held_weight w (replicate n None) ≡ 0
+  held_none zero = refl
+  held_none (suc n) = omega (arith, held_none n)
 
 -- how many orders are held
 pub held_all : (ps : List (Option Order)) → ((i : ℕ) → i < length ps → get_or ps i None ≡ None → ⊥) → held_weight (λ _. 1) ps ≡ length ps
@@ -45,8 +41,3 @@ held_room [] k h e = absurd (omega arith)
 held_room (p ∷ ps) zero h e = rw e (omega (arith, held_fit ps))
 held_room (None ∷ ps) (suc k) h e = omega (arith, held_room ps k (omega arith) e)
 held_room (Some o ∷ ps) (suc k) h e = omega (arith, held_room ps k (omega arith) e)
-
--- one more place made vacant
-pub vacant_more : (ps : List (Option Order)) (i : ℕ) → i < length ps → AllVacant ps i → AllVacant (set ps i None) (i + 1)
-vacant_more ps i h all =
-    below_more _ i (λ k lt. let ne : k ≢ i = omega arith in rw get_or-set_other (all k lt)) (rw get_or-set_same)

@@ -3,6 +3,7 @@ pub mod Weighed
 pub mod Alike
 pub mod Shown
 pub mod OnSide
+pub mod Seen
 pub mod Opposite
 pub mod Running
 pub mod First

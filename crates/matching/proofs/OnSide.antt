@@ -55,7 +55,7 @@ HeldAt ps o = (i : ℕ) × (i < length ps) × Holds ps i o
 nothing_there : (o y : Order) → alike o y ≡ false → only_side o.side (one_if (alike o)) y ≡ 0
 nothing_there o y e = rw e (elim (same_side o.side y.side) as (λ v. cond {A = ℕ} v 0 0 ≡ 0) [ true ↦ refl | false ↦ refl ])
 
-held_later : (o : Order) (p : Option Order) (ps : List (Option Order)) → HeldAt ps o → HeldAt (p ∷ ps) o
+pub held_later : (o : Order) (p : Option Order) (ps : List (Option Order)) → HeldAt ps o → HeldAt (p ∷ ps) o
 held_later o p ps found = (suc found.0, omega (arith, found.1), found.2)
 
 held_one : (o : Order) (ps : List (Option Order)) → 1 ≤ held_weight (only_side o.side (one_if (alike o))) ps → HeldAt ps o

@@ -17,9 +17,11 @@ use Rattle.plain.proofs.Price.{InRange}
 use Rattle.plain.proofs.AnySteps.{first_of_any}
 use Rattle.ranking.specs.Search.{Holds}
 use Rattle.matching.specs.Weights.{SameOrders}
-use Rattle.matching.specs.declared.quote.Quote.{Quote}
+use Rattle.quotes.specs.declared.quote.Quote.{Quote}
+use Rattle.quotes.specs.Quotes.{preferred_to, called_price}
+use Rattle.quotes.specs.Steps.{step_of}
 use Rattle.matching.specs.Scans.{opposite, tonnes_if}
-use Rattle.matching.specs.Quotes.{bought, sold, quote_at, preferred_to, step_of, step_at, better_of, best_over, best_quote, called_price}
+use Rattle.matching.specs.Quotes.{bought, sold, quote_at, step_at, better_of, best_over, best_quote}
 use Rattle.matching.proofs.Opposite.{opposite_weight}
 use Rattle.matching.proofs.OnSide.{HeldAt, side_live, held_on_side, rests_held}
 

@@ -16,6 +16,7 @@ use Rattle.plain.proofs.Thinned.{settled_thins, thinned_not_numbered}
 use Rattle.plain.proofs.Crossing.{settled_nothing, settled_append, dealt_nothing, dealt_unsold}
 use Rattle.matching.specs.Weights.{SameOrders}
 use Rattle.matching.specs.declared.dealing.Deal.{Deal}
+use Rattle.matching.specs.declared.dealing.Tally.{Tally}
 use Rattle.matching.specs.declared.dealing.Deal.TheVariants.{Entry, Call}
 use Rattle.matching.specs.Deals.{Turn, Nobody, DealtOne, Run, begin, more, RunOut}
 use Rattle.matching.proofs.First.{found_nobody}
@@ -71,11 +72,11 @@ nobody_left law ps c sound orders (Call price) left (inr nobody) =
     dealt_unsold (λ _ _. price) left (keep (within Sell price) c.buys)
 
 -- the places, the lent list and what is left after fills
-pub record Dealt (fs : List Fill) (start : ℕ) (b : Book) (phase : Phase) (next : ℕ) (before ps : List (Option Order)) (lent list : List Fill) (r : ℕ × ℕ) : Type 0 where
+pub record Dealt (fs : List Fill) (start : ℕ) (b : Book) (phase : Phase) (next : ℕ) (before ps : List (Option Order)) (lent list : List Fill) (r : Tally) : Type 0 where
   pub orders : SameOrders ps (dealt_with phase next fs b)
   pub same_length : length ps ≡ length before
-  pub sum : r.1 + tonnes fs ≡ start
-  pub count_is : r.0 ≡ length fs
+  pub sum : r.left + tonnes fs ≡ start
+  pub count_is : r.count ≡ length fs
   pub list_is : list ≡ fs ++ drop (length fs) lent
 
 module _ {rule : Rule} (law : Lawful rule) (d : Deal) (start : ℕ) (b : Book) (sound : Sound rule b) (new : New d b) (before : List (Option Order)) (orders : SameOrders before b) (phase : Phase) (next : ℕ) (later : b.next ≤ next) where
@@ -109,17 +110,17 @@ module _ {rule : Rule} (law : Lawful rule) (d : Deal) (start : ℕ) (b : Book) (
   along begin = none_yet
   along (more {fs} {ps} {qs} {left} {f} run one) = one_more fs ps qs left f (along run) one
 
-  pub runs_out : (ps : List (Option Order)) (lent list : List Fill) (r : ℕ × ℕ) → RunOut rule d start before lent ps list r → length (to_come d start b) ≤ length lent →
+  pub runs_out : (ps : List (Option Order)) (lent list : List Fill) (r : Tally) → RunOut rule d start before lent ps list r → length (to_come d start b) ≤ length lent →
       Dealt (to_come d start b) start b phase next before ps lent list r
   runs_out ps lent list r out fits =
       let fs = out.run_to.fills in
       let a = along out.run_to.run in
-      let rest = to_come d r.1 (after fs) in
+      let rest = to_come d r.left (after fs) in
       let long : length (fs ++ rest) ≤ length lent = subst (λ gs. length gs ≤ length lent) (sym a.whole) fits in
       let none : rest ≡ [] = elim out.ends [
         | inl ended ↦ elim ended [
-          | inl nothing ↦ nothing_left d (after fs) r.1 nothing
-          | inr nobody ↦ nobody_left law ps (after fs) (dealt_sound law phase next fs b later sound) a.held d r.1 nobody
+          | inl nothing ↦ nothing_left d (after fs) r.left nothing
+          | inr nobody ↦ nobody_left law ps (after fs) (dealt_sound law phase next fs b later sound) a.held d r.left nobody
         ]
         | inr full ↦ nothing_after fs rest (omega (arith, out.run_to.many))
       ] in

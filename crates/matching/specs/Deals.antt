@@ -11,6 +11,7 @@ use Rattle.plain.specs.Dealing.{fill}
 use Rattle.plain.specs.Book.{resting_price}
 use Rattle.ranking.specs.Search.{FirstIn}
 use Rattle.matching.specs.declared.dealing.Deal.{Deal}
+use Rattle.matching.specs.declared.dealing.Tally.{Tally}
 use Rattle.matching.specs.declared.dealing.Deal.TheVariants.{Entry, Call}
 use Rattle.matching.specs.Scans.{opposite}
 
@@ -86,11 +87,11 @@ pub record RunTo (rule : Rule) (d : Deal) (start : ℕ) (before : List (Option O
   pub list_is : list ≡ fills ++ drop k lent
 
 -- a run that goes on until nothing or nobody is left, or the list is full
-pub record RunOut (rule : Rule) (d : Deal) (start : ℕ) (before : List (Option Order)) (lent : List Fill) (ps : List (Option Order)) (list : List Fill) (r : ℕ × ℕ) : Type 0 where
-  pub run_to : RunTo rule d start before lent r.0 ps list r.1
-  pub ends : ((r.1 ≡ 0) ⊎ Nobody rule d ps) ⊎ (r.0 ≡ length lent)
+pub record RunOut (rule : Rule) (d : Deal) (start : ℕ) (before : List (Option Order)) (lent : List Fill) (ps : List (Option Order)) (list : List Fill) (r : Tally) : Type 0 where
+  pub run_to : RunTo rule d start before lent r.count ps list r.left
+  pub ends : ((r.left ≡ 0) ⊎ Nobody rule d ps) ⊎ (r.count ≡ length lent)
 
 -- an entry's order dealt with: not at all while gathering
-abbrev pub DealtNow : Rule → Phase → Order → List (Option Order) → List Fill → List (Option Order) → List Fill → ℕ × ℕ → Type 0
-DealtNow rule Gathering o before lent ps list r = (ps ≡ before) × (list ≡ lent) × (r.0 ≡ 0) × (r.1 ≡ o.remaining)
+abbrev pub DealtNow : Rule → Phase → Order → List (Option Order) → List Fill → List (Option Order) → List Fill → Tally → Type 0
+DealtNow rule Gathering o before lent ps list r = (ps ≡ before) × (list ≡ lent) × (r.count ≡ 0) × (r.left ≡ o.remaining)
 DealtNow rule Dealing o before lent ps list r = RunOut rule (Entry o) o.remaining before lent ps list r

@@ -1,9 +1,10 @@
 -- What a call would deal at a price, by the orders held, and the best of the prices. Assumes nothing.
-use Rattle.std.specs.Prelude.{ℕ, ◌+◌, ◌-◌, min, Bool, cond, ◌&&◌, ◌||◌, List, [], ◌∷◌, Some, None, Option, ◌==◌, nat_lt}
-use Rattle.orders.specs.declared.request.Side.{Side}
+use Rattle.std.specs.Prelude.{ℕ, List, [], ◌∷◌, Some, None, Option}
 use Rattle.orders.specs.declared.request.Side.TheVariants.{Buy, Sell}
 use Rattle.orders.specs.declared.order.Order.{Order}
-use Rattle.matching.specs.declared.quote.Quote.{Quote}
+use Rattle.quotes.specs.declared.quote.Quote.{Quote}
+use Rattle.quotes.specs.Quotes.{quoted, better}
+use Rattle.quotes.specs.Steps.{step_of}
 use Rattle.matching.specs.Weights.{held_weight, capped}
 use Rattle.matching.specs.Scans.{opposite, tonnes_if}
 
@@ -15,25 +16,16 @@ abbrev pub sold : List (Option Order) → ℕ → ℕ
 sold ps p = capped (held_weight (tonnes_if (opposite Buy p)) ps)
 
 abbrev pub quote_at : List (Option Order) → ℕ → Quote
-quote_at ps p = record { price = p; volume = min (bought ps p) (sold ps p); imbalance = (bought ps p - sold ps p) + (sold ps p - bought ps p) }
+quote_at ps p = quoted p (bought ps p) (sold ps p)
 
--- whether the first is taken before the second
-abbrev pub preferred_to : Quote → Quote → Bool
-preferred_to a b =
-    nat_lt b.volume a.volume || (b.volume == a.volume && (nat_lt a.imbalance b.imbalance || (a.imbalance == b.imbalance && nat_lt a.price b.price)))
-
--- the price from which an order changes what is dealt
-abbrev pub step_of : Side → ℕ → Option ℕ
-step_of Buy p = cond (nat_lt p 100000) (Some (p + 1)) None
-step_of Sell p = Some p
-
+-- the price from which the order in a place changes what is dealt
 abbrev pub step_at : Option Order → Option ℕ
 step_at None = None
 step_at (Some o) = step_of o.side o.price
 
 abbrev pub better_of : List (Option Order) → Quote → Option ℕ → Quote
 better_of ps best None = best
-better_of ps best (Some p) = cond (preferred_to (quote_at ps p) best) (quote_at ps p) best
+better_of ps best (Some p) = better best (quote_at ps p)
 
 -- the best of a quote and those at the steps of some places
 abbrev pub best_over : List (Option Order) → Quote → List (Option Order) → Quote
@@ -42,7 +34,3 @@ best_over ps best (q ∷ qs) = best_over ps (better_of ps best (step_at q)) qs
 
 abbrev pub best_quote : List (Option Order) → Quote
 best_quote ps = best_over ps (quote_at ps 1) ps
-
--- 0 where nothing deals
-abbrev pub called_price : Quote → ℕ
-called_price q = cond (q.volume == 0) 0 q.price

@@ -8,10 +8,6 @@ use Rattle.plain.specs.Orders.{within, other}
 use Rattle.ranking.specs.Search.{Holds}
 use Rattle.matching.specs.Weights.{Weight, held_weight}
 
--- the first n places are vacant
-abbrev pub AllVacant : List (Option Order) → ℕ → Type 0
-AllVacant ps n = (i : ℕ) → i < n → slice_index_or ps i None ≡ None
-
 -- a vacant place among the first n
 abbrev pub VacantIn : List (Option Order) → ℕ → Option ℕ → Type 0
 VacantIn ps n None = (i : ℕ) → i < n → slice_index_or ps i None ≢ None

@@ -1,5 +1,4 @@
 ghost use Rattle.std.specs.Prelude.{◌≡◌};
-ghost use Rattle.plain.specs.Dealing.{fill};
 ghost use Rattle.matching.specs.declared.dealing.Deal.TheVariants.{Entry, Call};
 ghost use Rattle.matching.specs.Deals.{fill_at, reduced, Turned, OneDeal, RunOut, DealtNow};
 
@@ -10,32 +9,20 @@ use ranking::places::{Places, put};
 use ranking::rank::Priority;
 
 // What is dealt: an entry's order with those opposite, or the buys with the sells at the price of a call.
+// Not a trait with a step of its own, since the contracts tell what is still to come of a deal by which of the two it is.
 #[derive(Clone, Copy)]
 pub enum Deal {
     Entry(Order),
     Call(u32),
 }
 
-fn fill_of(buy: &Order, sell: &Order, price: u32, quantity: u32) -> Fill
-    ensures { result ≡ fill (λ _ _. price) buy.now sell.now quantity }
-{
-    Fill {
-        buy: buy.number,
-        sell: sell.number,
-        buyer: buy.member,
-        seller: sell.member,
-        price,
-        quantity,
-    }
-}
-
 // The fill of an entry's order with a resting one, at the price of the latter.
-fn fill_at(side: Side, o: &Order, x: &Order, quantity: u32) -> Fill
-    ensures { result ≡ fill_at side o.now x.now quantity }
+fn fill_at(o: &Order, x: &Order, quantity: u32) -> Fill
+    ensures { result ≡ fill_at o.now.side o.now x.now quantity }
 {
-    match side {
-        Side::Buy => fill_of(o, x, x.price, quantity),
-        Side::Sell => fill_of(x, o, x.price, quantity),
+    match o.side {
+        Side::Buy => Fill::between(o, x, x.price, quantity),
+        Side::Sell => Fill::between(x, o, x.price, quantity),
     }
 }
 
@@ -45,12 +32,8 @@ fn reduced_by(o: &Order, quantity: u32) -> Option<Order>
 {
     if quantity < o.remaining {
         Some(Order {
-            number: o.number,
-            member: o.member,
-            side: o.side,
-            price: o.price,
-            quantity: o.quantity,
             remaining: o.remaining - quantity,
+            ..*o
         })
     } else {
         None
@@ -58,6 +41,7 @@ fn reduced_by(o: &Order, quantity: u32) -> Option<Order>
 }
 
 // Deals tonnes of an entry's order with the first-ranked order opposite, if any.
+// The list and the rule stay two arguments, here and below: of one value of both, each contract would have to say that its rule stays.
 fn deal_opposite<L: Places<Record = Order>, R: Priority>(
     list: &mut L,
     rule: &R,
@@ -69,7 +53,7 @@ fn deal_opposite<L: Places<Record = Order>, R: Priority>(
     let (i, x) = first_opposite(list, rule, o.side, o.price)?;
     let quantity = left.min(x.remaining);
     put(list, i, reduced_by(&x, quantity));
-    Some(fill_at(o.side, o, &x, quantity))
+    Some(fill_at(o, &x, quantity))
 }
 
 // Deals tonnes between the first-ranked buy and the first-ranked sell at a price, if any.
@@ -86,7 +70,7 @@ fn deal_pair<L: Places<Record = Order>, R: Priority>(
     let quantity = left.min(buy.remaining).min(sell.remaining);
     put(list, i, reduced_by(&buy, quantity));
     put(list, k, reduced_by(&sell, quantity));
-    Some(fill_of(&buy, &sell, price, quantity))
+    Some(Fill::between(&buy, &sell, price, quantity))
 }
 
 // One fill of what is left to deal, if there is anybody to deal with.
@@ -107,53 +91,67 @@ fn deal_one<L: Places<Record = Order>, R: Priority>(
     }
 }
 
-// Deals so many tonnes one fill after another; says how many fills there are, and what is left.
+// How many fills a deal came to, and how many of its tonnes are left.
+#[derive(Clone, Copy)]
+pub struct Tally {
+    pub count: usize,
+    pub left: u32,
+}
+
+// Deals so many tonnes one fill after another, into a list of fills.
 fn deal_out<L: Places<Record = Order>, R: Priority>(
     list: &mut L,
     rule: &R,
     deal: &Deal,
     tonnes: u32,
     fills: &mut [Fill],
-) -> (usize, u32)
+) -> Tally
     ensures { RunOut (R.Ranking.ahead rule.now) deal.now tonnes (L.Places.contents list.old) fills.old (L.Places.contents list.new) fills.new result }
 {
-    let mut left = tonnes;
-    for k in 0..fills.len() {
-        match deal_one(list, rule, deal, left) {
-            None => return (k, left),
-            Some(f) => {
-                fills[k] = f;
-                left -= f.quantity;
+    let mut tally = Tally {
+        count: 0,
+        left: tonnes,
+    };
+    for place in fills.iter_mut() {
+        match deal_one(list, rule, deal, tally.left) {
+            None => return tally,
+            Some(fill) => {
+                *place = fill;
+                tally.count += 1;
+                tally.left -= fill.quantity;
             }
         }
     }
-    (fills.len(), left)
+    tally
 }
 
-// Deals an entry's order, if the book is dealing; says how many fills there are, and what is left.
+// Deals an entry's order, if the book is dealing.
 pub fn deal_entry<L: Places<Record = Order>, R: Priority>(
     list: &mut L,
     rule: &R,
     phase: Phase,
     o: Order,
     fills: &mut [Fill],
-) -> (usize, u32)
+) -> Tally
     ensures { DealtNow (R.Ranking.ahead rule.now) phase o (L.Places.contents list.old) fills.old (L.Places.contents list.new) fills.new result }
 {
     match phase {
-        Phase::Gathering => (0, o.remaining),
+        Phase::Gathering => Tally {
+            count: 0,
+            left: o.remaining,
+        },
         Phase::Dealing => deal_out(list, rule, &Deal::Entry(o), o.remaining, fills),
     }
 }
 
-// Deals tonnes between buys and sells at the price of a call; says how many fills there are.
+// Deals tonnes between buys and sells at the price of a call.
 pub fn deal_call<L: Places<Record = Order>, R: Priority>(
     list: &mut L,
     rule: &R,
     price: u32,
     tonnes: u32,
     fills: &mut [Fill],
-) -> (usize, u32)
+) -> Tally
     ensures { RunOut (R.Ranking.ahead rule.now) (Call price) tonnes (L.Places.contents list.old) fills.old (L.Places.contents list.new) fills.new result }
 {
     deal_out(list, rule, &Deal::Call(price), tonnes, fills)

@@ -1,30 +1,21 @@
 ghost use Rattle.std.specs.Prelude.{◌≡◌, ◌+◌, ◌≤◌, length};
 ghost use Rattle.ranking.specs.Search.{FirstIn};
 ghost use Rattle.matching.specs.Weights.{capped, place_weight, held_weight};
-ghost use Rattle.matching.specs.Scans.{AllVacant, VacantIn, NumberedIn, opposite, tonnes_if, same_side, ahead_of, RankedIn};
+ghost use Rattle.matching.specs.Scans.{VacantIn, NumberedIn, opposite, tonnes_if, ahead_of, RankedIn};
 
 use orders::order::Order;
 use orders::request::Side;
 use ranking::finding::{Test, first_where};
-use ranking::places::Places;
+use ranking::places::{Places, each};
 use ranking::rank::Priority;
-
-// Makes every place vacant.
-pub fn clear<L: Places<Record = Order>>(list: &mut L)
-    ensures length { length (L.contents list.new) ≡ length (L.contents list.old) }
-    ensures vacant { AllVacant (L.contents list.new) (length (L.contents list.old)) }
-{
-    for i in 0..list.len() {
-        list.vacate(i);
-    }
-}
 
 // A vacant place, if there is one.
 pub fn vacant<L: Places<Record = Order>>(list: &L) -> Option<usize>
     ensures { VacantIn (L.contents list.now) (length (L.contents list.now)) result }
 {
+    // By index, since the place's index is the answer.
     for i in 0..list.len() {
-        if let None = list.get(i) {
+        if list.get(i).is_none() {
             return Some(i);
         }
     }
@@ -35,6 +26,7 @@ pub fn vacant<L: Places<Record = Order>>(list: &L) -> Option<usize>
 pub fn numbered<L: Places<Record = Order>>(list: &L, number: u32) -> Option<(usize, Order)>
     ensures { NumberedIn number (L.contents list.now) (length (L.contents list.now)) result }
 {
+    // By index, since the place's index is part of the answer.
     for i in 0..list.len() {
         if let Some(o) = list.get(i) {
             if o.number == number {
@@ -45,46 +37,7 @@ pub fn numbered<L: Places<Record = Order>>(list: &L, number: u32) -> Option<(usi
     None
 }
 
-// Whether an order rests opposite an order of the side, within its limit.
-fn is_opposite(side: Side, limit: u32, o: &Order) -> bool
-    ensures { result ≡ opposite side limit o.now }
-{
-    match (side, o.side) {
-        (Side::Buy, Side::Buy) => false,
-        (Side::Buy, Side::Sell) => o.price <= limit,
-        (Side::Sell, Side::Buy) => limit <= o.price,
-        (Side::Sell, Side::Sell) => false,
-    }
-}
-
-// Another order's tonnes on top, if it rests opposite; a sum past the largest number stays there.
-fn add_opposite(sum: u32, side: Side, limit: u32, place: Option<Order>) -> u32
-    ensures { result ≡ capped (sum + place_weight (tonnes_if (opposite side limit)) place) }
-{
-    match place {
-        None => sum,
-        Some(o) => {
-            if is_opposite(side, limit, &o) {
-                sum.saturating_add(o.remaining)
-            } else {
-                sum
-            }
-        }
-    }
-}
-
-// The tonnes that rest opposite, or the largest number if they are more.
-pub fn tonnes_opposite<L: Places<Record = Order>>(list: &L, side: Side, limit: u32) -> u32
-    ensures { result ≡ capped (held_weight (tonnes_if (opposite side limit)) (L.contents list.now)) }
-{
-    let mut sum = 0;
-    for i in 0..list.len() {
-        sum = add_opposite(sum, side, limit, list.get(i));
-    }
-    sum
-}
-
-// The orders that rest opposite.
+// The orders that rest on the other side than a side, within its limit.
 #[derive(Clone, Copy)]
 struct Opposite {
     side: Side,
@@ -95,8 +48,30 @@ impl Test<Order> for Opposite {
     ghost passing = { λ s. opposite s.side s.limit };
 
     fn passes(&self, o: &Order) -> bool {
-        is_opposite(self.side, self.limit, o)
+        o.side == self.side.opposite() && self.side.reaches(self.limit, o.price)
     }
+}
+
+// Another order's tonnes on top, if it rests opposite; a sum past the largest number stays there.
+fn add_opposite(sum: u32, wanted: &Opposite, place: Option<Order>) -> u32
+    ensures { result ≡ capped (sum + place_weight (tonnes_if (opposite wanted.now.side wanted.now.limit)) place) }
+{
+    match place {
+        Some(o) if wanted.passes(&o) => sum.saturating_add(o.remaining),
+        _ => sum,
+    }
+}
+
+// The tonnes that rest opposite, or the largest number if they are more.
+pub fn tonnes_opposite<L: Places<Record = Order>>(list: &L, side: Side, limit: u32) -> u32
+    ensures { result ≡ capped (held_weight (tonnes_if (opposite side limit)) (L.contents list.now)) }
+{
+    let wanted = Opposite { side, limit };
+    let mut sum = 0;
+    for place in each(list) {
+        sum = add_opposite(sum, &wanted, place);
+    }
+    sum
 }
 
 // The first-ranked order opposite, if any, and its place.
@@ -111,31 +86,14 @@ pub fn first_opposite<L: Places<Record = Order>, R: Priority>(
     first_where(list, rule, &Opposite { side, limit })
 }
 
-fn is_same_side(a: Side, b: Side) -> bool
-    ensures { result ≡ same_side a b }
-{
-    match (a, b) {
-        (Side::Buy, Side::Buy) => true,
-        (Side::Buy, Side::Sell) => false,
-        (Side::Sell, Side::Buy) => false,
-        (Side::Sell, Side::Sell) => true,
-    }
-}
-
 // 1 for an order of the same side that is ahead, and 0 for any other place.
 fn one_ahead<R: Priority>(rule: &R, o: &Order, place: Option<Order>) -> usize
     ensures weighs { result ≡ place_weight (ahead_of (R.Ranking.ahead rule.now) o.now) place }
     ensures small { result ≤ 1 }
 {
     match place {
-        None => 0,
-        Some(y) => {
-            if is_same_side(o.side, y.side) && rule.is_ahead(&y, o) {
-                1
-            } else {
-                0
-            }
-        }
+        Some(y) if o.side == y.side && rule.is_ahead(&y, o) => 1,
+        _ => 0,
     }
 }
 
@@ -144,6 +102,7 @@ fn count_ahead<L: Places<Record = Order>, R: Priority>(list: &L, rule: &R, o: &O
     ensures { result ≡ held_weight (ahead_of (R.Ranking.ahead rule.now) o.now) (L.Places.contents list.now) }
 {
     let mut n: usize = 0;
+    // By index, since the proof that the count fits needs to know how many places there are.
     for i in 0..list.len() {
         n += one_ahead(rule, o, list.get(i));
     }
@@ -159,13 +118,11 @@ pub fn with_ahead<L: Places<Record = Order>, R: Priority>(
 ) -> Option<Order>
     ensures { RankedIn (R.Ranking.ahead rule.now) side rank (L.Places.contents list.now) (length (L.Places.contents list.now)) result }
 {
-    for i in 0..list.len() {
-        if let Some(o) = list.get(i) {
-            if is_same_side(side, o.side) {
-                let n = count_ahead(list, rule, &o);
-                if n < rank && rank - n == 1 {
-                    return Some(o);
-                }
+    let ahead = rank.checked_sub(1)?;
+    for place in each(list) {
+        if let Some(o) = place {
+            if o.side == side && count_ahead(list, rule, &o) == ahead {
+                return Some(o);
             }
         }
     }

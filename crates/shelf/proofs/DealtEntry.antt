@@ -16,6 +16,7 @@ use Rattle.plain.proofs.Capacity.{always_within_capacity, thinned_rest}
 use Rattle.plain.proofs.StaysSound.{always_sound, next_is_new}
 use Rattle.plain.proofs.Thinned.{settled_thins}
 use Rattle.venue.specs.Meaning.{Served, book_setup}
+use Rattle.matching.specs.declared.dealing.Tally.{Tally}
 use Rattle.matching.specs.declared.dealing.Deal.TheVariants.{Entry as EntryDeal}
 use Rattle.matching.specs.Weights.{held_weight, SameOrders}
 use Rattle.shelf.specs.HeldGate.{is_full, entry_refusal}
@@ -23,7 +24,7 @@ use Rattle.shelf.specs.Entering.{left_of, Laid, entry_answer}
 use Rattle.matching.specs.Deals.{DealtNow}
 use Rattle.shelf.specs.Stands.{Stands}
 use Rattle.matching.proofs.Weighed.{weight_ones}
-use Rattle.shelf.proofs.Gates.{entry_refused, admits_open}
+use Rattle.shelf.proofs.Gates.{entry_refused, admits_room}
 use Rattle.matching.proofs.Turns.{to_come}
 use Rattle.matching.proofs.RunsOut.{run_length, runs_out}
 use Rattle.shelf.proofs.ServedEntry.{DealtIn, gathered, entry_so}
@@ -38,17 +39,17 @@ still_room b ps qs phase next fs before after same room =
     (omega (arith, before (λ _. 1), after (λ _. 1), weight_ones (resting b), weight_ones (resting (dealt_with phase next fs b))))
 
 -- as many places after it as before
-pub now_length : (rule : Rule) (phase : Phase) (o : Order) (before : List (Option Order)) (lent : List Fill) (ps : List (Option Order)) (list : List Fill) (r : ℕ × ℕ) →
+pub now_length : (rule : Rule) (phase : Phase) (o : Order) (before : List (Option Order)) (lent : List Fill) (ps : List (Option Order)) (list : List Fill) (r : Tally) →
     DealtNow rule phase o before lent ps list r → length ps ≡ length before
 now_length rule Gathering o before lent ps list r d = ap length d.0
 now_length rule Dealing o before lent ps list r d = run_length d.run_to.run
 
-module _ {rule : Rule} {ps : List (Option Order)} {phase : Phase} {next : ℕ} {is_fresh : Bool} (t : Tape) (stands : Stands rule ps phase next is_fresh t) (e : Entry) (lent list : List Fill) (admits : None ≡ entry_refusal ps phase next e (length lent)) (qs : List (Option Order)) (r : ℕ × ℕ) where
+module _ {rule : Rule} {ps : List (Option Order)} {phase : Phase} {next : ℕ} {is_fresh : Bool} (t : Tape) (stands : Stands rule ps phase next is_fresh t) (e : Entry) (lent list : List Fill) (admits : None ≡ entry_refusal ps phase next e (length lent)) (qs : List (Option Order)) (r : Tally) where
   abbrev b : Book
   b = after rule t
 
   room : is_full ps ≡ false
-  room = (admits_open ps phase next e (length lent) admits).room
+  room = admits_room ps phase next e (length lent) admits
 
   -- the fills fit the lent list
   fits : length (entry_fills b.phase e b) ≤ length lent
@@ -59,13 +60,13 @@ module _ {rule : Rule} {ps : List (Option Order)} {phase : Phase} {next : ℕ} {
   abbrev o : Order
   o = left_of e next e.quantity
 
-  gathers : phase ≡ Gathering → DealtNow rule Gathering o ps lent qs list r → DealtIn b e (entry_fills b.phase e b) ps qs lent list r.0 r.1
+  gathers : phase ≡ Gathering → DealtNow rule Gathering o ps lent qs list r → DealtIn b e (entry_fills b.phase e b) ps qs lent list r.count r.left
   gathers is d =
       let in_none = gathered b (always_sound rule stands.lawful t) stands.shows is room e lent in
       let fs_are = subst (λ fs. DealtIn b e fs ps ps lent lent 0 e.quantity) in_none.fills_are in_none in
       rw (d.0, d.1, d.2, d.3) fs_are
 
-  deals : phase ≡ Dealing → DealtNow rule Dealing o ps lent qs list r → DealtIn b e (entry_fills b.phase e b) ps qs lent list r.0 r.1
+  deals : phase ≡ Dealing → DealtNow rule Dealing o ps lent qs list r → DealtIn b e (entry_fills b.phase e b) ps qs lent list r.count r.left
   deals is d =
       let sound = always_sound rule stands.lawful t in
       let shows = stands.shows in
@@ -75,7 +76,7 @@ module _ {rule : Rule} {ps : List (Option Order)} {phase : Phase} {next : ℕ} {
       let new : NotNumbered next (side e.side b) = subst (λ n. NotNumbered n (side e.side b)) (sym shows.next_is) (next_is_new sound e.side) in
       let out = runs_out stands.lawful (EntryDeal o) e.quantity b sound new ps shows.orders b.phase (b.next + 1) (omega arith) qs lent list r d
       (subst (λ gs. length gs ≤ length lent) (sym same) fits) in
-      subst (λ gs. DealtIn b e gs ps qs lent list r.0 r.1) same
+      subst (λ gs. DealtIn b e gs ps qs lent list r.count r.left) same
       (record {
         fills_are = same;
         orders = out.orders;
@@ -87,15 +88,15 @@ module _ {rule : Rule} {ps : List (Option Order)} {phase : Phase} {next : ℕ} {
         list_is = out.list_is;
       })
 
-  by_phase : (p : Phase) → phase ≡ p → DealtNow rule p o ps lent qs list r → DealtIn b e (entry_fills b.phase e b) ps qs lent list r.0 r.1
+  by_phase : (p : Phase) → phase ≡ p → DealtNow rule p o ps lent qs list r → DealtIn b e (entry_fills b.phase e b) ps qs lent list r.count r.left
   by_phase Gathering is d = gathers is d
   by_phase Dealing is d = deals is d
 
   -- the entry is served
-  pub entry_dealt : DealtNow rule phase o ps lent qs list r → (rs : List (Option Order)) (a : Answer) → Laid e.life (left_of e next r.1) qs rs →
-      a ≡ entry_answer e next (min r.0 4294967295) r.1 → Served (book_setup rule (length ps)) (Stands rule rs phase (next + 1) false) t (Enter e) lent list (Ok a)
+  pub entry_dealt : DealtNow rule phase o ps lent qs list r → (rs : List (Option Order)) (a : Answer) → Laid e.life (left_of e next r.left) qs rs →
+      a ≡ entry_answer e next (min r.count 4294967295) r.left → Served (book_setup rule (length ps)) (Stands rule rs phase (next + 1) false) t (Enter e) lent list (Ok a)
   entry_dealt d rs a laid answers =
       let in_all = by_phase phase refl d in
       let few = (always_within_capacity rule (length ps) t stands.admitted).fills (Enter e) in
-      let count : min r.0 4294967295 ≡ r.0 = omega (arith, in_all.count_is, stands.few_places) in
-      entry_so t stands e lent (entry_fills b.phase e b) list qs rs r.0 r.1 a admits in_all laid (answers ∙ ap (λ k. entry_answer e next k r.1) count)
+      let count : min r.count 4294967295 ≡ r.count = omega (arith, in_all.count_is, stands.few_places) in
+      entry_so t stands e lent (entry_fills b.phase e b) list qs rs r.count r.left a admits in_all laid (answers ∙ ap (λ k. entry_answer e next k r.left) count)

@@ -33,7 +33,7 @@ module _ {rule : Rule} {ps : List (Option Order)} {phase : Phase} {next : ℕ} (
 some_none : {c : Cause} → Some c ≡ None → ⊥
 some_none h = let z : ◌≡◌ {A = ℕ} 0 1 = cc in omega arith
 
--- what is not refused has a vacant place and a number
+-- where none of two tests in sequence holds, neither does
 none_first : (a r : Option Cause) → first a r ≡ None → (a ≡ None) × (r ≡ None)
 none_first None r h = (refl, h)
 none_first (Some c) r h = absurd (some_none h)
@@ -42,13 +42,8 @@ none_when : (t : Bool) (c : Cause) → when t c ≡ None → t ≡ false
 none_when true c h = absurd (some_none h)
 none_when false c h = refl
 
-pub record Open (ps : List (Option Order)) (next : ℕ) : Type 0 where
-  pub room : is_full ps ≡ false
-  pub numbers : next ≤ 999999
-
-pub admits_open : (ps : List (Option Order)) (phase : Phase) (next : ℕ) (e : Entry) (n : ℕ) → None ≡ entry_refusal ps phase next e n → Open ps next
-admits_open ps phase next e n h =
+-- what is not refused has a vacant place
+pub admits_room : (ps : List (Option Order)) (phase : Phase) (next : ℕ) (e : Entry) (n : ℕ) → None ≡ entry_refusal ps phase next e n → is_full ps ≡ false
+admits_room ps phase next e n h =
     let early_on = (none_first _ _ (none_first (when (ltb n (length ps)) FillListShort) _ (sym h)).1).1 in
-    let full = none_first (when (is_full ps) BookFull) _ early_on in
-    let spent = none_first (when (ltb 999999 next) NumbersSpent) _ full.1 in
-    record { room = none_when (is_full ps) BookFull full.0; numbers = ltb-false 999999 next (none_when (ltb 999999 next) NumbersSpent spent.0) }
+    none_when (is_full ps) BookFull (none_first (when (is_full ps) BookFull) _ early_on).0

@@ -1,6 +1,6 @@
 -- What an entry leaves rests in one more place. Assumes nothing.
 use Rattle.std.proofs.Common.{◌≡◌, ℕ, ◌+◌, ◌-◌, ◌<◌, ◌≤◌, Bool, true, false, cond, ◌&&◌, ltb, List, [], ◌∷◌, length, get_or, set, None, sym, refl, ap, ◌∙◌, arith, length-set, Option, Some}
-use Rattle.std.proofs.lemmas.Bool.{true≢false, lt-ltb, le-leb, lt-leb, and_from, cond-true}
+use Rattle.std.proofs.lemmas.Bool.{true≢false, lt-ltb, and_from, cond-true}
 use Rattle.orders.specs.declared.request.Side.{Side}
 use Rattle.orders.specs.declared.request.Side.TheVariants.{Buy, Sell}
 use Rattle.orders.specs.declared.request.Life.{Life}
@@ -18,8 +18,9 @@ use Rattle.matching.specs.Scans.{VacantIn}
 use Rattle.shelf.specs.HeldGate.{is_full}
 use Rattle.shelf.specs.Entering.{left_of, resting_weight, Laid}
 use Rattle.shelf.specs.Stands.{Shows}
-use Rattle.matching.proofs.Held.{held_set, held_all, held_room}
+use Rattle.matching.proofs.Held.{held_set}
 use Rattle.matching.proofs.Weighed.{weight_append, weight_placed}
+use Rattle.shelf.proofs.Room.{no_room, some_room}
 
 module _ (life : Life) (o : Order) (ps : List (Option Order)) where
   pub laid_in : (k : ℕ) → rests life ≡ true → 0 < o.remaining → k < length ps → get_or ps k None ≡ None → Laid life o ps (set ps k (Some o))
@@ -31,13 +32,11 @@ module _ (life : Life) (o : Order) (ps : List (Option Order)) where
       }
 
   -- where a place is vacant the list is not full
-  pub not_full : (k : ℕ) → k < length ps → get_or ps k None ≡ None → is_full ps ≡ true → ⊥
-  not_full k h vacant full = true≢false (sym full ∙ lt-leb _ _ (held_room ps k h vacant))
+  pub not_full : (k : ℕ) → VacantIn ps (length ps) (Some k) → is_full ps ≡ true → ⊥
+  not_full k vacant full = true≢false (sym full ∙ some_room ps k vacant)
 
   pub laid_full : VacantIn ps (length ps) None → Laid life o ps ps
-  laid_full none =
-      let full : length ps ≤ held_weight (λ _. 1) ps = omega (arith, held_all ps none) in
-      record { same_length = refl; orders = λ room w. absurd (true≢false (sym (le-leb _ _ full) ∙ room)) }
+  laid_full none = record { same_length = refl; orders = λ room w. absurd (true≢false (sym (no_room ps none) ∙ room)) }
 
 -- fills of nothing settle nothing
 pub settled_none : (side of : Side) (next : ℕ) (xs : List Order) → AllLive of next xs → settled side [] xs ≡ xs

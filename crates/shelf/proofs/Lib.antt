@@ -1,3 +1,4 @@
+pub mod Room
 pub mod Starts
 pub mod Gates
 pub mod Stepped

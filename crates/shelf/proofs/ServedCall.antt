@@ -7,7 +7,7 @@ use Rattle.orders.specs.declared.order.Phase.{Phase}
 use Rattle.orders.specs.declared.order.Phase.TheVariants.{Dealing}
 use Rattle.orders.specs.declared.answer.Answer.{Answer}
 use Rattle.orders.specs.declared.answer.Answer.TheVariants.{Called}
-use Rattle.orders.specs.declared.refusal.Cause.{Cause}
+use Rattle.orders.specs.declared.refusal.Refusal.{Refusal}
 use Rattle.orders.specs.declared.refusal.Cause.TheVariants.{FillListShort, WrongPhase}
 use Rattle.plain.specs.Rule.{Rule}
 use Rattle.plain.specs.Price.{call_volume}
@@ -17,10 +17,12 @@ use Rattle.plain.specs.Gate.{is_dealing, refused_by}
 use Rattle.plain.proofs.Capacity.{always_within_capacity}
 use Rattle.plain.proofs.StaysSound.{always_sound}
 use Rattle.venue.specs.Meaning.{Served, book_setup}
+use Rattle.matching.specs.declared.dealing.Tally.{Tally}
 use Rattle.matching.specs.declared.dealing.Deal.TheVariants.{Call as CallDeal}
-use Rattle.matching.specs.declared.quote.Quote.{Quote}
+use Rattle.quotes.specs.declared.quote.Quote.{Quote}
+use Rattle.quotes.specs.Quotes.{called_price}
 use Rattle.shelf.specs.HeldGate.{call_refusal}
-use Rattle.matching.specs.Quotes.{best_quote, called_price}
+use Rattle.matching.specs.Quotes.{best_quote}
 use Rattle.matching.specs.Deals.{RunOut}
 use Rattle.shelf.specs.Stands.{Stands}
 use Rattle.matching.proofs.RunsOut.{Dealt, runs_out}
@@ -38,11 +40,7 @@ module _ {rule : Rule} {ps : List (Option Order)} {phase : Phase} {next : ℕ} {
   refused : call_refusal ps phase (length lent) ≡ refused_by (length ps) b Call (length lent)
   refused = ap (λ p. first (when (ltb (length lent) (length ps)) FillListShort) (when (is_dealing p) WrongPhase)) stands.shows.phase_is
 
-  pub call_not : (c : Cause) → Some c ≡ call_refusal ps phase (length lent) →
-      Served (book_setup rule (length ps)) (Stands rule ps phase next is_fresh) t Call lent lent (Err (record { cause = c; height = Some 0 }))
-  call_not c h = served_not t stands Call lent c (sym (h ∙ refused))
-
-  module _ (admits : None ≡ call_refusal ps phase (length lent)) (qs : List (Option Order)) (list : List Fill) (r : ℕ × ℕ) where
+  module _ (admits : None ≡ call_refusal ps phase (length lent)) (qs : List (Option Order)) (list : List Fill) (r : Tally) where
     admitted : refused_by (length ps) b Call (length lent) ≡ None
     admitted = sym (admits ∙ refused)
 
@@ -54,7 +52,7 @@ module _ {rule : Rule} {ps : List (Option Order)} {phase : Phase} {next : ℕ} {
         (le_refl b.next) qs lent list r out ((always_within_capacity rule (length ps) t stands.admitted).room Call (length lent) admitted)
 
     -- the call is served
-    pub call_so : (q : Quote) (p count : ℕ) → q ≡ best_quote ps → p ≡ called_price q → count ≡ min r.0 4294967295 → RunOut rule (CallDeal p) q.volume ps lent qs list r →
+    pub call_so : (q : Quote) (p count : ℕ) → q ≡ best_quote ps → p ≡ called_price q → count ≡ min r.count 4294967295 → RunOut rule (CallDeal p) q.volume ps lent qs list r →
         Served (book_setup rule (length ps)) (Stands rule qs Dealing next false) t Call lent list (Ok (call_answer p q.volume count))
     call_so q p count best called counted out =
         let all = always_within_capacity rule (length ps) t stands.admitted in

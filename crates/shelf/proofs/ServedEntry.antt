@@ -8,7 +8,7 @@ use Rattle.orders.specs.declared.order.Fill.{Fill}
 use Rattle.orders.specs.declared.order.Phase.{Phase}
 use Rattle.orders.specs.declared.order.Phase.TheVariants.{Gathering}
 use Rattle.orders.specs.declared.answer.Answer.{Answer}
-use Rattle.orders.specs.declared.refusal.Cause.{Cause}
+use Rattle.orders.specs.declared.refusal.Refusal.{Refusal}
 use Rattle.plain.specs.Rule.{Rule}
 use Rattle.plain.specs.Dealing.{tonnes}
 use Rattle.plain.specs.Book.{Book, Tape, after, resting, entry_fills, entered}
@@ -55,9 +55,9 @@ module _ {rule : Rule} {ps : List (Option Order)} {phase : Phase} {next : ℕ} {
   refused : entry_refusal ps phase next e (length lent) ≡ refused_by (length ps) (after rule t) (Enter e) (length lent)
   refused = entry_refused (after rule t) (always_sound rule stands.lawful t) stands.shows e (length lent)
 
-  pub entry_not : (c : Cause) → Some c ≡ entry_refusal ps phase next e (length lent) →
-      Served (book_setup rule (length ps)) (Stands rule ps phase next is_fresh) t (Enter e) lent lent (Err (record { cause = c; height = Some 0 }))
-  entry_not c h = served_not t stands (Enter e) lent c (sym (h ∙ refused))
+  pub entry_not : (f : Refusal) → Some f.cause ≡ entry_refusal ps phase next e (length lent) → f.height ≡ Some 0 →
+      Served (book_setup rule (length ps)) (Stands rule ps phase next is_fresh) t (Enter e) lent lent (Err f)
+  entry_not f h height = served_not t stands (Enter e) lent f (sym (h ∙ refused)) height
 
   answer_is : (fs : List Fill) (count left : ℕ) → next ≡ (after rule t).next → tonnes fs ≤ e.quantity → left ≡ left_tonnes e fs → count ≡ length fs →
       entry_answer e next count left ≡ (entered rule e (after rule t) fs).answer

@@ -1,20 +1,19 @@
 -- None places stand for the new book. Assumes nothing.
-use Rattle.std.proofs.Common.{◌≤◌, true, List, [], length, refl, Option}
-use Rattle.orders.specs.declared.order.Order.{Order}
+use Rattle.std.proofs.Common.{ℕ, ◌≤◌, Option, true, [], replicate, None, refl, arith}
+use Rattle.std.proofs.lemmas.List.{length-replicate}
 use Rattle.orders.specs.declared.order.Phase.TheVariants.{Gathering}
+use Rattle.orders.specs.declared.order.Order.{Order}
 use Rattle.plain.specs.Rule.{Rule, Lawful}
-use Rattle.matching.specs.Scans.{AllVacant}
 use Rattle.shelf.specs.Stands.{Stands}
 use Rattle.matching.proofs.Held.{held_none}
 
-pub stands_new : (rule : Rule) → Lawful rule → (ps : List (Option Order)) → 1 ≤ length ps → length ps ≤ 1024 → AllVacant ps (length ps) →
-    Stands rule ps Gathering 1 true []
-stands_new rule law ps low high none =
+pub stands_new : (rule : Rule) → Lawful rule → (n : ℕ) → 1 ≤ n → n ≤ 1024 → Stands rule (replicate n None) Gathering 1 true []
+stands_new rule law n low high =
     record {
-      shows = record { orders = λ w. held_none w ps none; phase_is = refl; next_is = refl };
+      shows = record { orders = λ w. held_none w n; phase_is = refl; next_is = refl };
       fresh_is = refl;
-      some_places = low;
-      few_places = high;
+      some_places = omega (arith, length-replicate {A = Option Order} n None);
+      few_places = omega (arith, length-replicate {A = Option Order} n None);
       admitted = tt;
       lawful = law;
     }

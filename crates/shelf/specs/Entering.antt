@@ -1,10 +1,11 @@
 -- What an entry leaves in the places. Assumes nothing.
-use Rattle.std.specs.Prelude.{◌≡◌, ℕ, ◌+◌, ◌-◌, false, cond, ◌&&◌, List, length, nat_lt, Option}
+use Rattle.std.specs.Prelude.{◌≡◌, ℕ, ◌+◌, false, cond, ◌&&◌, List, length, nat_lt, Option}
 use Rattle.orders.specs.declared.request.Life.{Life}
 use Rattle.orders.specs.declared.entry.Entry.{Entry}
 use Rattle.orders.specs.declared.order.Order.{Order}
 use Rattle.orders.specs.declared.answer.Answer.{Answer}
 use Rattle.orders.specs.declared.answer.Answer.TheVariants.{Entered}
+use Rattle.orders.specs.Entries.{entered}
 use Rattle.plain.specs.Rule.{with_remaining}
 use Rattle.plain.specs.Book.{order, rests}
 use Rattle.matching.specs.Weights.{Weight, held_weight}
@@ -23,6 +24,6 @@ pub record Laid (life : Life) (o : Order) (ps qs : List (Option Order)) : Type 0
   pub same_length : length qs ≡ length ps
   pub orders : is_full ps ≡ false → (w : Weight) → held_weight w qs ≡ resting_weight w life o + held_weight w ps
 
+-- the answer to an entry of which so many tonnes are left after so many fills
 abbrev pub entry_answer : Entry → (number count left : ℕ) → Answer
-entry_answer e number count left =
-    Entered (record { number = number; fills = count; dealt = e.quantity - left; resting = cond (rests e.life) left 0; withdrawn = cond (rests e.life) 0 left })
+entry_answer e number count left = Entered (entered e number count left)

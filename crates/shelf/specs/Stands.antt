@@ -46,3 +46,8 @@ module _ {L R : Type 0} (contents : L → List (Option Order)) where
 
     abbrev pub ServedFrom : Shelf L R → Shelf L R → Request → List Fill → List Fill → Result Answer Refusal → Type 0
     ServedFrom s s' q lent left r = (t : Tape) → ShelfStands s t → Served (shelf_setup s) (ShelfStands s') t q lent left r
+
+    -- a request handled: the rule and the number of places stay, and it is served
+    pub record Handles (s s' : Shelf L R) (q : Request) (lent left : List Fill) (r : Result Answer Refusal) : Type 0 where
+      pub same : SameShelf s s'
+      pub served : ServedFrom s s' q lent left r

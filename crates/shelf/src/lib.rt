@@ -3,5 +3,4 @@
 
 mod as_book;
 mod entering;
-mod gate;
 pub mod shelf;

@@ -2,20 +2,21 @@ ghost use Rattle.std.specs.Prelude.{List, length, MatchResult};
 ghost use Rattle.orders.specs.declared.order.Fill.{Fill};
 ghost use Rattle.orders.specs.declared.request.Request.TheVariants.{Enter, Withdraw, Call, Halt};
 ghost use Rattle.venue.specs.Books.{Opened, HandedBack};
-ghost use Rattle.shelf.specs.Stands.{ShelfStands, SameShelf, ServedFrom, shelf_setup};
+ghost use Rattle.shelf.specs.Stands.{ShelfStands, Handles, shelf_setup};
 
-use crate::entering::{count_of, entry_answer, lay, left_of};
-use crate::gate::{call_refusal, entry_refusal};
+mod gate;
+
+use crate::entering::{count_of, lay};
 use matching::dealing::{deal_call, deal_entry};
-use matching::quote::{best_quote, called_price};
-use matching::scan::{clear, numbered, with_ahead};
-use orders::answer::{Answer, Called, Withdrawn};
+use matching::quote::best_quote;
+use matching::scan::{numbered, with_ahead};
+use orders::answer::{Answer, Called, Entered, Withdrawn};
 use orders::cancel::Cancel;
 use orders::entry::Entry;
 use orders::order::{Fill, Order, Phase};
 use orders::refusal::{Cause, Refusal};
 use orders::request::{Request, Side};
-use ranking::places::Places;
+use ranking::places::{Places, clear};
 use ranking::rank::Priority;
 use venue::book::Refused;
 use venue::venue::Venue;
@@ -56,22 +57,11 @@ impl<L: Places<Record = Order>, R: Priority> Shelf<L, R> {
 
     // Takes an order of the member away.
     fn withdraw(&mut self, c: &Cancel) -> Result<Answer, Refusal>
-        ensures same { SameShelf L.Places.contents self.old self.new }
-        ensures served { (lent : List Fill) → ServedFrom L.Places.contents R.Ranking.ahead self.old self.new (Withdraw c.now) lent lent result }
+        ensures { (lent : List Fill) → Handles L.Places.contents R.Ranking.ahead self.old self.new (Withdraw c.now) lent lent result }
     {
         let number = c.number();
         match numbered(&self.list, number) {
-            None => Err(Refusal {
-                cause: Cause::NoSuchOrder,
-                height: Some(0),
-            }),
-            Some((i, o)) => {
-                if o.member != c.member() {
-                    return Err(Refusal {
-                        cause: Cause::NoSuchOrder,
-                        height: Some(0),
-                    });
-                }
+            Some((i, o)) if o.member == c.member() => {
                 self.list.vacate(i);
                 self.is_new = false;
                 Ok(Answer::Withdrawn(Withdrawn {
@@ -80,19 +70,16 @@ impl<L: Places<Record = Order>, R: Priority> Shelf<L, R> {
                     tonnes: o.remaining,
                 }))
             }
+            _ => Err(Cause::NoSuchOrder.at(0)),
         }
     }
 
     // Goes back to gathering.
     fn halt(&mut self) -> Result<Answer, Refusal>
-        ensures same { SameShelf L.Places.contents self.old self.new }
-        ensures served { (lent : List Fill) → ServedFrom L.Places.contents R.Ranking.ahead self.old self.new Halt lent lent result }
+        ensures { (lent : List Fill) → Handles L.Places.contents R.Ranking.ahead self.old self.new Halt lent lent result }
     {
         match self.phase {
-            Phase::Gathering => Err(Refusal {
-                cause: Cause::WrongPhase,
-                height: Some(0),
-            }),
+            Phase::Gathering => Err(Cause::WrongPhase.at(0)),
             Phase::Dealing => {
                 self.phase = Phase::Gathering;
                 self.is_new = false;
@@ -103,60 +90,43 @@ impl<L: Places<Record = Order>, R: Priority> Shelf<L, R> {
 
     // Enters an order: deals what it can while dealing, and rests with what is left, unless it is killed.
     fn enter(&mut self, e: &Entry, fills: &mut [Fill]) -> Result<Answer, Refusal>
-        ensures same { SameShelf L.Places.contents self.old self.new }
-        ensures served { ServedFrom L.Places.contents R.Ranking.ahead self.old self.new (Enter e.now) fills.old fills.new result }
+        ensures { Handles L.Places.contents R.Ranking.ahead self.old self.new (Enter e.now) fills.old fills.new result }
     {
         let number = self.next;
-        match entry_refusal(&self.list, self.phase, number, e, fills.len()) {
-            Some(cause) => Err(Refusal {
-                cause,
-                height: Some(0),
-            }),
-            None => {
-                let order = left_of(e, number, e.quantity());
-                let (count, left) = deal_entry(
-                    &mut self.list,
-                    &self.rule,
-                    self.phase,
-                    order,
-                    fills,
-                );
-                lay(&mut self.list, e.life(), left_of(e, number, left));
-                self.next = number + 1;
-                self.is_new = false;
-                Ok(entry_answer(e, number, count_of(count), left))
-            }
-        }
+        self.admit_entry(e, fills.len())
+            .map_err(|cause| cause.at(0))?;
+        let order = e.order(number);
+        let tally = deal_entry(&mut self.list, &self.rule, self.phase, order, fills);
+        let rest = Order {
+            remaining: tally.left,
+            ..order
+        };
+        lay(&mut self.list, e.life(), rest);
+        self.next = number + 1;
+        self.is_new = false;
+        let entered = Entered::of(e, number, count_of(tally.count), tally.left);
+        Ok(Answer::Entered(entered))
     }
 
     // Deals at the price that deals most, and goes on to dealing.
     fn call(&mut self, fills: &mut [Fill]) -> Result<Answer, Refusal>
-        ensures same { SameShelf L.Places.contents self.old self.new }
-        ensures served { ServedFrom L.Places.contents R.Ranking.ahead self.old self.new Call fills.old fills.new result }
+        ensures { Handles L.Places.contents R.Ranking.ahead self.old self.new Call fills.old fills.new result }
     {
-        match call_refusal(&self.list, self.phase, fills.len()) {
-            Some(cause) => Err(Refusal {
-                cause,
-                height: Some(0),
-            }),
-            None => {
-                let best = best_quote(&self.list);
-                let price = called_price(&best);
-                let (count, _) = deal_call(&mut self.list, &self.rule, price, best.volume, fills);
-                self.phase = Phase::Dealing;
-                self.is_new = false;
-                Ok(Answer::Called(Called {
-                    price,
-                    volume: best.volume,
-                    fills: count_of(count),
-                }))
-            }
-        }
+        self.admit_call(fills.len()).map_err(|cause| cause.at(0))?;
+        let best = best_quote(&self.list);
+        let price = best.called_price();
+        let tally = deal_call(&mut self.list, &self.rule, price, best.volume, fills);
+        self.phase = Phase::Dealing;
+        self.is_new = false;
+        Ok(Answer::Called(Called {
+            price,
+            volume: best.volume,
+            fills: count_of(tally.count),
+        }))
     }
 
     fn handle(&mut self, request: &Request, fills: &mut [Fill]) -> Result<Answer, Refusal>
-        ensures same { SameShelf L.Places.contents self.old self.new }
-        ensures served { ServedFrom L.Places.contents R.Ranking.ahead self.old self.new request.now fills.old fills.new result }
+        ensures { Handles L.Places.contents R.Ranking.ahead self.old self.new request.now fills.old fills.new result }
     {
         match request {
             Request::Enter(e) => self.enter(e, fills),
@@ -187,11 +157,7 @@ impl<L: Places<Record = Order>, R: Priority> Venue for Shelf<L, R> {
     }
 
     fn next_number(&self) -> Option<u32> {
-        if self.next <= 999999 {
-            Some(self.next)
-        } else {
-            None
-        }
+        (self.next <= 999999).then_some(self.next)
     }
 
     fn is_fresh(&self) -> bool {

@@ -1,10 +1,16 @@
+use Rattle.std.proofs.Common.{refl, arith}
 use Rattle.matching.proofs.Running.{run_start, run_more}
 use Rattle.matching.proofs.dealing.deal_out.Goals as goal
 
-pub loop-k-init : goal.loop-k-init
-loop-k-init g c = run_start c.args.fills.now
+pub loop-place-init : goal.loop-place-init
+loop-place-init g c = (run_start c.args.fills.now, refl)
 
-pub loop-k-preserved : goal.loop-k-preserved
-loop-k-preserved g c =
-    run_more c.args.fills.now c.loop-k.k c.loop-k.left (g.L.Places.contents c.loop-k.list) (g.L.Places.contents c.deal_one.new.list)
-    c.loop-k.fills c.in-Some.f c.loop-k-test.true c.loop-k.invariant c.in-Some.ensures
+pub loop-place-preserved : goal.loop-place-preserved
+loop-place-preserved g c =
+    let tally = c.loop-place.tally in
+    let at = c.loop-place.invariant.1 in (
+      rw (← at)
+          (run_more c.args.fills.now tally.count tally.left (g.L.Places.contents c.loop-place.list) (g.L.Places.contents c.deal_one.new.list)
+          c.loop-place.fills c.in-Some.fill (omega (arith, at, c.loop-place-test.true)) c.loop-place.invariant.0 c.in-Some.ensures),
+      omega (arith, at),
+    )

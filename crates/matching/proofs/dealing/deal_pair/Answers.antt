@@ -15,7 +15,7 @@ returns g c =
       sell = (c.in_ok-k.k, sell);
       first_buy = c.in_ok-i.ensures;
       first_sell = c.in_ok-k.ensures;
-      fill_is = c.fill_of.ensures ∙ ap (fill (λ _ _. c.args.price) buy sell) quantity;
+      fill_is = c.between.ensures ∙ ap (fill (λ _ _. c.args.price) buy sell) quantity;
       places_are = c.put-2.ensures ∙ (ap (λ qs. slice_set qs c.in_ok-k.k c.reduced_by-2.result) without_buy ∙
           ap (slice_set (slice_set ps c.in_ok-i.i (reduced buy (crossing c.args.left buy sell))) c.in_ok-k.k) (c.reduced_by-2.ensures ∙ ap (reduced sell) quantity));
     }

@@ -1,5 +1,4 @@
 use Rattle.std.proofs.Common.{◌<◌, length, ap, arith}
-use Rattle.std.proofs.lemmas.List.{take_all}
 use Rattle.matching.specs.Weights.{place_weight, held_weight}
 use Rattle.matching.specs.Scans.{ahead_of}
 use Rattle.matching.proofs.Held.{held_more}
@@ -13,9 +12,3 @@ loop-i-preserved g c =
       omega (arith, c.loop-i.invariant.0, c.one_ahead-n.ensures.weighs, ap (place_weight w) c.get.ensures, held_more w ps c.loop-i.i inside),
       omega (arith, c.loop-i.invariant.1, c.one_ahead-n.ensures.small),
     )
-
-pub returns : goal.returns
-returns g c =
-    let w = ahead_of (g.R.Ranking.ahead c.args.rule.now) c.args.o.now in
-    let ps = g.L.Places.contents c.args.list.now in
-    omega (arith, c.loop-i.invariant.0, ap (held_weight w) (take_all c.loop-i.i ps (omega (arith, c.len-i-end.ensures))))

@@ -1,18 +1,14 @@
-use Rattle.std.proofs.Common.{refl}
-use Rattle.shelf.proofs.ServedCall.{call_not, call_so}
+use Rattle.std.proofs.Common.{rules, refl}
+use Rattle.shelf.proofs.ServedCall.{call_so}
 use Rattle.matching.proofs.RunsOut.{run_length}
 use Rattle.shelf.proofs.shelf.Shelf.call.Goals as goal
 
-pub returns-in-Some : goal.returns-in-Some
-returns-in-Some g c =
-    record { same = record { same_rule = refl; same_places = refl }; served = λ t s. call_not t s c.args.fills.now c.in-Some.cause c.in-Some.ensures }
-
-pub returns-in-None : goal.returns-in-None
-returns-in-None g c =
-    let dealt = c.deal_call-count.ensures in
+pub returns : goal.returns
+returns g c =
+    let dealt = c.deal_call-tally.ensures in
     record {
       same = record { same_rule = refl; same_places = run_length dealt.run_to.run };
       served = λ t s.
-          call_so t s c.args.fills.now c.in-None.ensures (g.L.Places.contents c.deal_call-count.new.list) c.deal_call-count.new.fills c.deal_call-count.result
+          call_so t s c.args.fills.now (search rules) (g.L.Places.contents c.deal_call-tally.new.list) c.deal_call-tally.new.fills c.deal_call-tally.result
           c.best_quote-best.result c.called_price-price.result c.count_of.result c.best_quote-best.ensures c.called_price-price.ensures c.count_of.ensures dealt;
     }
