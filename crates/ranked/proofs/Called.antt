@@ -19,7 +19,6 @@ use Rattle.plain.specs.Gate.{refused_by}
 use Rattle.plain.proofs.Call.{call_fits}
 use Rattle.plain.proofs.FewFills.{fills_are_few}
 use Rattle.lineup.specs.declared.state.State.{State}
-use Rattle.ranked.specs.declared.state.Crossing.{Crossing}
 use Rattle.lineup.specs.Lying.{Lies}
 use Rattle.ranked.specs.Handling.{Accepted}
 use Rattle.ranked.specs.ByTurns.{cut_by}
@@ -118,11 +117,10 @@ module _ (price : ℕ) (b : Book) where
       }
 
   module _ (goal : List Fill) (places : List (Option Order)) (st : State) (left count : ℕ) (lent fills : List Fill) (g : Calling price b goal places st left count lent fills) where
-    pub calling_more : (places' : List (Option Order)) (r : Crossing) → 0 < left → count < length lent → Crossable price left g.book places' r →
-        Calling price b goal places' r.state (left - r.fill.quantity) (count + 1) lent (set fills count r.fill)
-    calling_more places' r some room c =
-        let q = r.fill.quantity in
-        let f = r.fill in
+    pub calling_more : (places' : List (Option Order)) (st' : State) (f : Fill) → 0 < left → count < length lent → Crossable price left g.book places' st' f →
+        Calling price b goal places' st' (left - f.quantity) (count + 1) lent (set fills count f)
+    calling_more places' st' f some room c =
+        let q = f.quantity in
         let x = c.buy in
         let y = c.sell in
         let xs = c.later_buys in
@@ -242,7 +240,7 @@ module _ (rule : Rule) (lawful : Lawful rule) (b : Book) (sound : Sound rule b) 
 
     pub call_accepted : (s st : State) (places : List (Option Order)) (count : ℕ) (lent left : List Fill) → refused_by s.capacity b Call (length lent) ≡ None → st.capacity ≡ s.capacity →
         Crossed price n (dealing b) places st count lent left →
-        Accepted rule b Call s places lent left (record { state = st; answer = AsCalled (record { price = price; volume = n; fills = count }) })
+        Accepted rule b Call s st places lent left (AsCalled (record { price = price; volume = n; fills = count }))
     call_accepted s st places count lent left may capacity w =
         let e = fills_are_these in
         record {

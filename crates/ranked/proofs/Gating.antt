@@ -17,14 +17,6 @@ use Rattle.lineup.specs.Layout.{seen, worth}
 use Rattle.lineup.specs.Lying.{Lies, count}
 
 module _ (places : List (Option Order)) (s : State) (b : Book) (l : Lies places s b) where
-  pub reach_is : (e : Entry) (u t : Side) (limit start : ℕ) → u ≡ e.side → t ≡ other u → limit ≡ e.price → start ≡ s.capacity - count t s →
-      worth u limit (drop start (seen t places)) ≡ reach e b
-  reach_is e u t limit start own theirs price is =
-      worth_from places s b l t u limit start is ∙
-      ap (λ v. total (keep (within v limit) (side t b))) own ∙
-      ap (λ v. total (keep (within e.side v) (side t b))) price ∙
-      ap (λ v. total (keep (within e.side e.price) (side v b))) (theirs ∙ ap other own)
-
   resting_length : length (resting b) ≡ s.buys + s.sells
   resting_length = let c = l.counts Buy in let d = l.counts Sell in length-append b.buys b.sells ∙ omega arith
 

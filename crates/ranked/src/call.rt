@@ -1,4 +1,4 @@
-ghost use Rattle.std.specs.Prelude.{◌≡◌, IfOk};
+ghost use Rattle.std.specs.Prelude.{◌≡◌};
 ghost use Rattle.orders.specs.declared.request.Request.TheVariants.{Call};
 ghost use Rattle.plain.specs.Book.{Book};
 ghost use Rattle.plain.specs.Sound.{Sound};
@@ -6,9 +6,7 @@ ghost use Rattle.lineup.specs.Lying.{Lies};
 ghost use Rattle.ranked.specs.Handling.{Handled};
 
 use crate::cross::crossed;
-use crate::state::Done;
-use lineup::price::quote;
-use lineup::state::State;
+use lineup::lineup::Lineup;
 use orders::answer::{Answer, Called};
 use orders::order::{Fill, Order, Phase};
 use orders::refusal::Cause;
@@ -17,31 +15,27 @@ use ranking::rank::{Priority, Ranking};
 
 // Makes a call, or refuses it and changes nothing.
 pub fn call<L: Places<Record = Order>, R: Priority>(
-    list: &mut L,
+    lineup: &mut Lineup<L>,
     rule: &R,
-    mut state: State,
     fills: &mut [Fill],
-) -> Result<Done, Cause>
-    ensures capacity { IfOk result (λ d. d.state.capacity ≡ state.capacity) }
-    ensures handled { (b : Book) → Lies (L.Places.contents list.old) state b → Sound (R.Ranking.ahead rule.now) b → Handled (R.Ranking.ahead rule.now) b Call state (L.Places.contents list.old) (L.Places.contents list.new) fills.old fills.new result }
+) -> Result<Answer, Cause>
+    ensures capacity { lineup.new.state.capacity ≡ lineup.old.state.capacity }
+    ensures handled { (b : Book) → Lies (L.Places.contents lineup.old.mirrored.list) lineup.old.state b → Sound (R.Ranking.ahead rule.now) b → Handled (R.Ranking.ahead rule.now) b Call lineup.old.state (L.Places.contents lineup.old.mirrored.list) lineup.new.state (L.Places.contents lineup.new.mirrored.list) fills.old fills.new result }
 {
-    if fills.len() < state.capacity {
+    if fills.len() < lineup.state.capacity {
         return Err(Cause::FillListShort);
     }
-    match state.phase {
+    match lineup.state.phase {
         Phase::Dealing => return Err(Cause::WrongPhase),
         Phase::Gathering => {}
     }
     rule.is_lawful();
-    let quote = quote(list, &state);
-    state.phase = Phase::Dealing;
-    let turns = crossed(list, state, quote.price, quote.volume, fills);
-    Ok(Done {
-        state: turns.state,
-        answer: Answer::Called(Called {
-            price: quote.price,
-            volume: quote.volume,
-            fills: turns.fills,
-        }),
-    })
+    let quote = lineup.quote();
+    lineup.state.phase = Phase::Dealing;
+    let count = crossed(lineup, quote.price, quote.volume, fills);
+    Ok(Answer::Called(Called {
+        price: quote.price,
+        volume: quote.volume,
+        fills: count,
+    }))
 }

@@ -1,4 +1,4 @@
-ghost use Rattle.std.specs.Prelude.{◌≡◌, List, IfOk};
+ghost use Rattle.std.specs.Prelude.{◌≡◌, List};
 ghost use Rattle.orders.specs.declared.request.Request.TheVariants.{Withdraw, Halt};
 ghost use Rattle.orders.specs.declared.order.Fill.{Fill};
 ghost use Rattle.plain.specs.Rule.{Rule};
@@ -9,9 +9,7 @@ ghost use Rattle.ranked.specs.Handling.{Handled};
 
 use crate::call::call;
 use crate::entry::enter;
-use crate::state::Done;
-use lineup::sides::{spot, take_out};
-use lineup::state::State;
+use lineup::lineup::Lineup;
 use orders::answer::{Answer, Withdrawn};
 use orders::cancel::Cancel;
 use orders::order::{Fill, Order, Phase};
@@ -21,63 +19,55 @@ use ranking::places::Places;
 use ranking::rank::{Priority, Ranking};
 
 pub fn withdraw<L: Places<Record = Order>>(
-    list: &mut L,
-    state: State,
+    lineup: &mut Lineup<L>,
     cancel: &Cancel,
-) -> Result<Done, Cause>
-    ensures capacity { IfOk result (λ d. d.state.capacity ≡ state.capacity) }
-    ensures handled { (rule : Rule) (b : Book) (lent : List Fill) → Lies (L.Places.contents list.old) state b → Sound rule b → Handled rule b (Withdraw cancel.now) state (L.Places.contents list.old) (L.Places.contents list.new) lent lent result }
+) -> Result<Answer, Cause>
+    ensures capacity { lineup.new.state.capacity ≡ lineup.old.state.capacity }
+    ensures handled { (rule : Rule) (b : Book) (lent : List Fill) → Lies (L.Places.contents lineup.old.mirrored.list) lineup.old.state b → Sound rule b → Handled rule b (Withdraw cancel.now) lineup.old.state (L.Places.contents lineup.old.mirrored.list) lineup.new.state (L.Places.contents lineup.new.mirrored.list) lent lent result }
 {
     let number = cancel.number();
-    let found = match spot(list, &state, number) {
-        Some(found) => found,
-        None => return Err(Cause::NoSuchOrder),
+    let Some(found) = lineup.spot(number) else {
+        return Err(Cause::NoSuchOrder)
     };
     let order = found.order;
     if order.member != cancel.member() {
         return Err(Cause::NoSuchOrder);
     }
-    let state = take_out(list, state, found.side, found.place);
-    Ok(Done {
-        state,
-        answer: Answer::Withdrawn(Withdrawn {
-            number,
-            side: order.side,
-            tonnes: order.remaining,
-        }),
-    })
+    lineup.take_out(found.side, found.place);
+    Ok(Answer::Withdrawn(Withdrawn {
+        number,
+        side: order.side,
+        tonnes: order.remaining,
+    }))
 }
 
-pub fn halt<L: Places<Record = Order>>(list: &L, mut state: State) -> Result<Done, Cause>
-    ensures capacity { IfOk result (λ d. d.state.capacity ≡ state.capacity) }
-    ensures handled { (rule : Rule) (b : Book) (lent : List Fill) → Lies (L.Places.contents list.now) state b → Handled rule b Halt state (L.Places.contents list.now) (L.Places.contents list.now) lent lent result }
+pub fn halt<L: Places<Record = Order>>(lineup: &mut Lineup<L>) -> Result<Answer, Cause>
+    ensures capacity { lineup.new.state.capacity ≡ lineup.old.state.capacity }
+    ensures handled { (rule : Rule) (b : Book) (lent : List Fill) → Lies (L.Places.contents lineup.old.mirrored.list) lineup.old.state b → Handled rule b Halt lineup.old.state (L.Places.contents lineup.old.mirrored.list) lineup.new.state (L.Places.contents lineup.new.mirrored.list) lent lent result }
 {
-    match state.phase {
-        Phase::Gathering => return Err(Cause::WrongPhase),
-        Phase::Dealing => {}
+    match lineup.state.phase {
+        Phase::Gathering => Err(Cause::WrongPhase),
+        Phase::Dealing => {
+            lineup.state.phase = Phase::Gathering;
+            Ok(Answer::Halted)
+        }
     }
-    state.phase = Phase::Gathering;
-    Ok(Done {
-        state,
-        answer: Answer::Halted,
-    })
 }
 
 // Answers a request, or refuses it and changes nothing.
 pub fn handle<L: Places<Record = Order>, R: Priority>(
-    list: &mut L,
+    lineup: &mut Lineup<L>,
     rule: &R,
-    state: State,
     request: Request,
     fills: &mut [Fill],
-) -> Result<Done, Cause>
-    ensures capacity { IfOk result (λ d. d.state.capacity ≡ state.capacity) }
-    ensures handled { (b : Book) → Lies (L.Places.contents list.old) state b → Sound (R.Ranking.ahead rule.now) b → Handled (R.Ranking.ahead rule.now) b request state (L.Places.contents list.old) (L.Places.contents list.new) fills.old fills.new result }
+) -> Result<Answer, Cause>
+    ensures capacity { lineup.new.state.capacity ≡ lineup.old.state.capacity }
+    ensures handled { (b : Book) → Lies (L.Places.contents lineup.old.mirrored.list) lineup.old.state b → Sound (R.Ranking.ahead rule.now) b → Handled (R.Ranking.ahead rule.now) b request lineup.old.state (L.Places.contents lineup.old.mirrored.list) lineup.new.state (L.Places.contents lineup.new.mirrored.list) fills.old fills.new result }
 {
     match request {
-        Request::Enter(entry) => enter(list, rule, state, &entry, fills),
-        Request::Withdraw(cancel) => withdraw(list, state, &cancel),
-        Request::Call => call(list, rule, state, fills),
-        Request::Halt => halt(list, state),
+        Request::Enter(entry) => enter(lineup, rule, &entry, fills),
+        Request::Withdraw(cancel) => withdraw(lineup, &cancel),
+        Request::Call => call(lineup, rule, fills),
+        Request::Halt => halt(lineup),
     }
 }

@@ -9,4 +9,3 @@ mod entry;
 mod gate;
 mod handle;
 pub mod serve;
-pub mod state;

@@ -5,8 +5,8 @@ use Rattle.plain.specs.Gate.{is_dealing}
 use Rattle.lineup.proofs.Laying.{relabelled}
 use Rattle.ranked.proofs.handle.halt.Goals as goal
 
-pub returns : goal.returns
-returns g c = record {
+pub returns-in-Dealing : goal.returns-in-Dealing
+returns-in-Dealing g c = record {
   capacity = refl;
   handled = λ rule b lent l. record {
     admitted = ap (λ p. when (not (is_dealing p)) WrongPhase) (sym l.phase_is ∙ c.in-Dealing.is);

@@ -8,7 +8,7 @@ use Rattle.ranked.proofs.handle.withdraw.Goals as goal
 
 pub returns : goal.returns
 returns g c = record {
-  capacity = c.take_out-state.ensures.recounted.capacity;
+  capacity = c.take_out.ensures.recounted.capacity;
   handled = λ rule b lent l sound.
       let cancel = c.args.cancel.now in
       let found = c.in-Some.found in
@@ -19,13 +19,13 @@ returns g c = record {
       let replied = sym (ap (withdrawn cancel.number b) first) in
       let own = own_gone rule b sound _ _ _ o found.side rests.stood in
       let others = others_stay rule b sound _ _ _ o found.side rests.stood rests.not_bought in
-      let lies = c.take_out-state.ensures.lies b (gone c.number-number.result b) _ o _ l rests.stood.are rests.stood.lies own others refl refl in
-      let places = g.L.Places.contents c.take_out-state.new.list in
+      let lies = c.take_out.ensures.lies b (gone c.number-number.result b) _ o _ l rests.stood.are rests.stood.lies own others refl refl in
+      let places = g.L.Places.contents c.take_out.new.self.mirrored.list in
       record {
-        admitted = may_cancel c.args.state.capacity b cancel (length lent) o first (c.if-order-member.false ∙ c.member.ensures.value);
+        admitted = may_cancel c.args.lineup.now.state.capacity b cancel (length lent) o first (c.if-order-member.false ∙ c.member.ensures.value);
         answered = ap (λ n. Withdrawn (record { number = n; side = o.side; tonnes = o.remaining })) number ∙ ap (λ r. r.answer) replied;
         list = ap (λ r. r.fills ++ drop (length r.fills) lent) replied;
-        lies = subst (λ r. Lies places c.take_out-state.result r.book) replied (subst (λ n. Lies places c.take_out-state.result (gone n b)) number lies);
-        capacity = c.take_out-state.ensures.recounted.capacity;
+        lies = subst (λ r. Lies places c.take_out.new.self.state r.book) replied (subst (λ n. Lies places c.take_out.new.self.state (gone n b)) number lies);
+        capacity = c.take_out.ensures.recounted.capacity;
       };
 }
