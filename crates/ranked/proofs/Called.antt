@@ -1,5 +1,5 @@
 -- A call's fills, one after another. Assumes nothing.
-use Rattle.std.proofs.Common.{◌≡◌, ℕ, ◌+◌, ◌-◌, ◌<◌, ◌≤◌, min, Bool, eqb, leb, List, [], ◌∷◌, ◌++◌, length, drop, set, None, sym, refl, ap, ◌∙◌, subst, ⊎_elim, append_assoc, append-nil, arith, length-append, Option}
+use Rattle.std.proofs.Common.{◌≡◌, ℕ, ◌+◌, ◌-◌, ◌<◌, ◌≤◌, min, Bool, eqb, leb, List, [], ◌∷◌, ◌++◌, length, drop, take, set, None, sym, refl, ap, ◌∙◌, subst, ⊎_elim, append_assoc, append-nil, arith, length-append, Option}
 use Rattle.std.proofs.lemmas.List.{drop_more, set_at, length_push}
 use Rattle.std.proofs.lemmas.Bool.{cond_both, leb-true, leb-false, cases_eq}
 use Rattle.orders.specs.declared.request.Side.{Side}
@@ -25,6 +25,7 @@ use Rattle.ranked.specs.ByTurns.{cut_by}
 use Rattle.ranked.specs.Crossings.{holding, Crossable, Crossed}
 use Rattle.lineup.proofs.Laying.{on_both, relabelled, gap_left}
 use Rattle.ranked.proofs.Turning.{none_taken, settled_nothing, takes_within}
+use Rattle.ranked.proofs.Going.{written_part}
 use Rattle.ranked.proofs.Crossing.{settled_first, cross_more}
 
 -- a side while n tonnes are to be dealt: the fills to come leave of it what all of them leave of the side as it was
@@ -178,10 +179,11 @@ module _ (price : ℕ) (b : Book) where
         let c = g.counted in
         (omega arith, omega arith)
 
-pub crossed_so : {price n : ℕ} {b : Book} {places : List (Option Order)} {st : State} {count : ℕ} {lent left : List Fill} →
-    (Lies places st (dealt_with b.phase b.next (dealt (λ _ _. price) n b.buys b.sells) b)) × (count ≡ length (dealt (λ _ _. price) n b.buys b.sells)) × (left ≡ dealt (λ _ _. price) n b.buys b.sells ++ drop (length (dealt (λ _ _. price) n b.buys b.sells)) lent) →
-    Crossed price n b places st count lent left
-crossed_so t = record { lies = t.0; counted = t.1; list = t.2 }
+pub crossed_so : {price n : ℕ} {b : Book} {places : List (Option Order)} {st : State} {count k : ℕ} {lent part : List Fill} →
+    length (dealt (λ _ _. price) n b.buys b.sells) ≤ k → k ≤ length lent →
+    (Lies places st (dealt_with b.phase b.next (dealt (λ _ _. price) n b.buys b.sells) b)) × (count ≡ length (dealt (λ _ _. price) n b.buys b.sells)) × (part ≡ dealt (λ _ _. price) n b.buys b.sells ++ drop (length (dealt (λ _ _. price) n b.buys b.sells)) (take k lent)) →
+    Crossed price n b places st count lent (part ++ drop k lent)
+crossed_so few fits t = record { lies = t.0; counted = t.1; list = written_part _ _ _ _ few fits t.2 }
 
 pub none_left : (n : ℕ) → (0 < n → ⊥) → n ≡ 0
 none_left n h = ⊎_elim (λ e. e) (λ ne. absurd (h (omega arith))) (cases_eq n 0)

@@ -37,17 +37,15 @@ pub(crate) fn crossed<L: Places<Record = Order>>(
 {
     let capacity = lineup.state.capacity;
     let mut left = n;
-    let mut count: usize = 0;
-    while count < capacity {
+    for (count, place) in fills[..capacity].iter_mut().enumerate() {
         if left == 0 {
-            break;
+            return narrowed(count);
         }
         let Some(fill) = cross(lineup, price, left) else {
-            break
+            return narrowed(count)
         };
-        fills[count] = fill;
+        *place = fill;
         left -= fill.quantity;
-        count += 1;
     }
-    narrowed(count)
+    narrowed(capacity)
 }

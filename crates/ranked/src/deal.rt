@@ -66,20 +66,17 @@ pub(crate) fn deal<L: Places<Record = Order>>(
     ensures few { (lineup.new.state.capacity ≡ lineup.old.state.capacity) × (lineup.new.state.buys + lineup.new.state.sells ≤ lineup.old.state.buys + lineup.old.state.sells) }
     ensures dealt { (b : Book) → Lies (L.Places.contents lineup.old.mirrored.list) lineup.old.state b → length (by_turns taker.now.side taker.now n (side_of (other taker.now.side) b)) ≤ lineup.old.state.capacity → TurnsTaken taker.now.side taker.now n b (L.Places.contents lineup.new.mirrored.list) lineup.new.state result fills.old fills.new }
 {
-    let side = taker.side.opposite();
     let capacity = lineup.state.capacity;
     let mut left = n;
-    let mut count: usize = 0;
-    while count < capacity {
+    for (count, place) in fills[..capacity].iter_mut().enumerate() {
         if left == 0 {
-            break;
+            return narrowed(count);
         }
-        let Some(taken) = take_turn(lineup, side, left) else {
-            break
+        let Some(turn) = take_turn(lineup, taker.side.opposite(), left) else {
+            return narrowed(count)
         };
-        fills[count] = fill_of(taker, &taken.order, taken.tonnes);
-        left -= taken.tonnes;
-        count += 1;
+        *place = fill_of(taker, &turn.order, turn.tonnes);
+        left -= turn.tonnes;
     }
-    narrowed(count)
+    narrowed(capacity)
 }
