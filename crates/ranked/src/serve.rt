@@ -10,7 +10,6 @@ ghost use Rattle.ranked.specs.Standing.{Stands};
 ghost use Rattle.ranked.specs.Handling.{Handled};
 
 use crate::book::Ranked;
-use crate::handle::handle;
 use lineup::state::State;
 use orders::answer::Answer;
 use orders::order::{Fill, Order, Phase};
@@ -44,7 +43,7 @@ impl<L: Places<Record = Order>, R: Priority> Venue for Ranked<L, R> {
     ghost stands = { λ s. Stands (R.Ranking.ahead s.rule) (L.Places.contents s.lineup.mirrored.list) s.lineup.state };
 
     fn serve(&mut self, request: Request, fills: &mut [Fill]) -> Result<Answer, Refusal> {
-        let outcome = handle(&mut self.lineup, &self.rule, request, fills);
+        let outcome = self.handle(request, fills);
         close(&mut self.lineup.state, outcome)
     }
 

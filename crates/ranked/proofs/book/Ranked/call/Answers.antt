@@ -5,14 +5,14 @@ use Rattle.orders.specs.Causes.{first, when}
 use Rattle.plain.specs.Gate.{is_dealing}
 use Rattle.lineup.proofs.Laying.{relabelled}
 use Rattle.ranked.proofs.Called.{dealing, dealing_sound, call_has, call_room, call_accepted}
-use Rattle.ranked.proofs.call.call.Goals as goal
+use Rattle.ranked.proofs.book.Ranked.call.Goals as goal
 
 pub returns : goal.returns
 returns g c = record {
-  capacity = c.crossed-count.ensures.capacity;
+  same = (refl, c.crossed-count.ensures.capacity);
   handled = λ b l sound.
       let lawful = c.is_lawful.ensures in
-      let s = c.args.lineup.now.state in
+      let s = c.args.self.now.lineup.state in
       let quoted = c.quote-quote.ensures _ b lawful l sound in
       let phase = sym l.phase_is ∙ c.in-Gathering.is in
       let has = call_has _ lawful b sound _ _ quoted.0 quoted.1 in

@@ -4,11 +4,11 @@ use Rattle.plain.specs.Orders.{find}
 use Rattle.plain.specs.Book.{resting, withdrawn}
 use Rattle.lineup.specs.Lying.{Lies}
 use Rattle.ranked.proofs.Cancelled.{gone, own_gone, others_stay, may_cancel}
-use Rattle.ranked.proofs.handle.withdraw.Goals as goal
+use Rattle.ranked.proofs.book.Ranked.withdraw.Goals as goal
 
 pub returns : goal.returns
 returns g c = record {
-  capacity = c.take_out.ensures.recounted.capacity;
+  same = (refl, c.take_out.ensures.recounted.capacity);
   handled = λ rule b lent l sound.
       let cancel = c.args.cancel.now in
       let found = c.in-Some.found in
@@ -22,7 +22,7 @@ returns g c = record {
       let lies = c.take_out.ensures.lies b (gone c.number-number.result b) _ o _ l rests.stood.are rests.stood.lies own others refl refl in
       let places = g.L.Places.contents c.take_out.new.self.mirrored.list in
       record {
-        admitted = may_cancel c.args.lineup.now.state.capacity b cancel (length lent) o first (c.if-order-member.false ∙ c.member.ensures.value);
+        admitted = may_cancel c.args.self.now.lineup.state.capacity b cancel (length lent) o first (c.if-order-member.false ∙ c.member.ensures.value);
         answered = ap (λ n. Withdrawn (record { number = n; side = o.side; tonnes = o.remaining })) number ∙ ap (λ r. r.answer) replied;
         list = ap (λ r. r.fills ++ drop (length r.fills) lent) replied;
         lies = subst (λ r. Lies places c.take_out.new.self.state r.book) replied (subst (λ n. Lies places c.take_out.new.self.state (gone n b)) number lies);
