@@ -24,10 +24,9 @@ impl<L: Places<Record = Order>> Lineup<L> {
         if left == 0 {
             return None;
         }
-        match self.get(Side::Sell, self.state.buys.saturating_sub(left)) {
-            Some(buy) => { if buy.price < limit { Some(buy) } else { None } }
-            None => None,
-        }
+        let place = self.state.buys.saturating_sub(left);
+        let buy = self.get(Side::Sell, place)?;
+        if buy.price < limit { Some(buy) } else { None }
     }
 
     // Passes the buys whose price is below the limit.

@@ -14,14 +14,8 @@ fn tonnes_within(place: Option<Order>, side: Side, limit: u32) -> u32
     ensures { result ≡ worth_of side limit place }
 {
     match place {
-        Some(order) => {
-            if side.reaches(limit, order.price) {
-                order.remaining
-            } else {
-                0
-            }
-        }
-        None => 0,
+        Some(order) if side.reaches(limit, order.price) => order.remaining,
+        _ => 0,
     }
 }
 

@@ -25,7 +25,7 @@ use Rattle.ranked.specs.ByTurns.{cut_by}
 use Rattle.ranked.specs.Crossings.{holding, Crossable, Crossed}
 use Rattle.lineup.proofs.Laying.{on_both, relabelled, gap_left}
 use Rattle.ranked.proofs.Turning.{none_taken, settled_nothing, takes_within}
-use Rattle.ranked.proofs.Going.{written_part}
+use Rattle.ranked.proofs.Filling.{filled_more, filled_all, written_part}
 use Rattle.ranked.proofs.Crossing.{settled_first, cross_more}
 
 -- a side while n tonnes are to be dealt: the fills to come leave of it what all of them leave of the side as it was
@@ -144,10 +144,7 @@ module _ (price : ℕ) (b : Book) where
           same_next = g.same_next;
           lies = c.lies;
           counted = length_push g.done f ∙ ap (λ k. k + 1) g.counted;
-          filled =
-              ap (λ v. set v count f) (g.filled ∙ ap (λ v. g.done ++ v) (drop_more lent count f room)) ∙
-              set_at g.done _ (drop (count + 1) lent) f count g.counted ∙
-              sym (append_assoc g.done (f ∷ []) (drop (count + 1) lent));
+          filled = filled_more g.done count lent fills g.counted g.filled f room;
           fills_are = append_assoc g.done (f ∷ []) rest ∙ ap (λ v. g.done ++ v) (sym come) ∙ g.fills_are;
           sides = on_both (λ t. Left t b.next (left - q) rest goal (side t b) (side t book)) Buy
               (left_more Buy b.next left f rest goal b.buys g.book.buys x xs c.buys_are (λ k. ap (names Buy k) c.fill_is) (omega arith) (one Buy))
@@ -157,13 +154,12 @@ module _ (price : ℕ) (b : Book) where
     pub calling_used : left ≡ 0 → (Lies places st (dealt_with b.phase b.next goal b)) × (count ≡ length goal) × (fills ≡ goal ++ drop (length goal) lent)
     calling_used e =
         let none : dealt (λ _ _. price) left g.book.buys g.book.sells ≡ [] = ap (λ ps. paired (λ _ _. price) ps (takes left g.book.sells)) (none_taken left g.book.buys e) in
-        let all : g.done ≡ goal = sym (append-nil g.done) ∙ ap (λ v. g.done ++ v) (sym none) ∙ g.fills_are in
-        let size : count ≡ length goal = sym g.counted ∙ ap length all in
+        let all = filled_all g.done count lent fills g.counted g.filled goal _ g.fills_are none in
         let end : (t : Side) → settled t goal (side t b) ≡ side t g.book = λ t.
         let h = g.sides t in sym h.leaves ∙ ap (λ fs. settled t fs (side t g.book)) none ∙ settled_nothing t t b.next (side t g.book) h.live in (
           relabelled places st st g.book (dealt_with b.phase b.next goal b) g.lies refl refl refl (end Buy) (end Sell) (g.lies.phase_is ∙ g.same_phase) (g.lies.next_is ∙ g.same_next),
-          size,
-          g.filled ∙ ap (λ v. v ++ drop count lent) all ∙ ap (λ k. goal ++ drop k lent) size,
+          all.0,
+          all.1,
         )
 
     -- while tonnes are left there are orders and fills to come

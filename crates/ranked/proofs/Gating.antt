@@ -12,8 +12,6 @@ use Rattle.plain.specs.Book.{Book, side, resting, reach}
 use Rattle.orders.specs.Causes.{first, when}
 use Rattle.plain.specs.Gate.{early, unreached, refused_by}
 use Rattle.lineup.specs.declared.state.State.{State}
-use Rattle.lineup.proofs.Worth.{worth_from}
-use Rattle.lineup.specs.Layout.{seen, worth}
 use Rattle.lineup.specs.Lying.{Lies, count}
 
 module _ (places : List (Option Order)) (s : State) (b : Book) (l : Lies places s b) where

@@ -35,6 +35,7 @@ pub(crate) fn crossed<L: Places<Record = Order>>(
     ensures capacity { lineup.new.state.capacity ≡ lineup.old.state.capacity }
     ensures dealt { (rule : Rule) (b : Book) → Lies (L.Places.contents lineup.old.mirrored.list) lineup.old.state b → Sound rule b → n ≤ total b.buys → n ≤ total b.sells → length (dealt (λ _ _. price) n b.buys b.sells) ≤ lineup.old.state.capacity → Crossed price n b (L.Places.contents lineup.new.mirrored.list) lineup.new.state result fills.old fills.new }
 {
+    // The loop is like that of `deal`: one for both would take the step as a closure over the lineup, with more to say of it than the loop has lines.
     let capacity = lineup.state.capacity;
     let mut left = n;
     for (count, place) in fills[..capacity].iter_mut().enumerate() {

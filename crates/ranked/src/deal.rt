@@ -17,7 +17,7 @@ pub struct Turn {
 }
 
 // Deals up to n tonnes with the best order of a side, if there is one.
-pub fn take_turn<L: Places<Record = Order>>(
+pub(crate) fn take_turn<L: Places<Record = Order>>(
     lineup: &mut Lineup<L>,
     side: Side,
     n: u32,
@@ -39,7 +39,7 @@ pub fn take_turn<L: Places<Record = Order>>(
 }
 
 // A count in 32 bits, or the most that they hold.
-pub fn narrowed(n: usize) -> u32
+pub(crate) fn narrowed(n: usize) -> u32
     ensures { result ≡ min n (2 ^ 32 - 1) }
 {
     u32::try_from(n).unwrap_or(u32::MAX)

@@ -11,7 +11,7 @@ use orders::refusal::Cause;
 use ranking::places::Places;
 
 // The tonnes in an entry's reach, or the most that the number holds.
-pub fn reach<L: Places<Record = Order>>(lineup: &Lineup<L>, entry: &Entry) -> u32
+pub(crate) fn reach<L: Places<Record = Order>>(lineup: &Lineup<L>, entry: &Entry) -> u32
     ensures { (b : Book) → Lies (L.Places.contents lineup.now.mirrored.list) lineup.now.state b → result ≡ min (reachOf entry.now b) (2 ^ 32 - 1) }
 {
     lineup.reach(entry.side(), entry.price())
@@ -36,7 +36,7 @@ fn unreached<L: Places<Record = Order>>(lineup: &Lineup<L>, entry: &Entry) -> bo
 }
 
 // Admits an entry with a fill list of a length, or says why every book refuses it.
-pub fn admit<L: Places<Record = Order>>(
+pub(crate) fn admit<L: Places<Record = Order>>(
     lineup: &Lineup<L>,
     entry: &Entry,
     room: usize,

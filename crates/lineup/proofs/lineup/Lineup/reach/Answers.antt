@@ -2,9 +2,9 @@ use Rattle.std.proofs.Common.{◌≡◌, ◌+◌, ◌-◌, ◌^◌, min, get_or,
 use Rattle.std.proofs.lemmas.List.{at_drop_more, at_drop_all}
 use Rattle.plain.specs.Orders.{keep, total, within}
 use Rattle.plain.specs.Book.{side}
-use Rattle.lineup.specs.Layout.{seen, worth, worth_of}
+use Rattle.lineup.specs.Layout.{seen, worth_of}
 use Rattle.lineup.proofs.Mirror.{seen_length}
-use Rattle.lineup.proofs.Worth.{worth_from}
+use Rattle.lineup.proofs.Worth.{worth, worth_from}
 use Rattle.lineup.proofs.lineup.Lineup.reach.Goals as goal
 
 pub loop-i-init : goal.loop-i-init

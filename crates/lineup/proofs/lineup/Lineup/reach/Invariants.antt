@@ -1,8 +1,9 @@
 use Rattle.std.proofs.Common.{◌≡◌, ◌+◌, ◌-◌, ◌^◌, ◌≤◌, min, drop}
 use Rattle.plain.specs.Orders.{keep, total, within, other}
 use Rattle.plain.specs.Book.{Book, side}
-use Rattle.lineup.specs.Layout.{seen, worth}
+use Rattle.lineup.specs.Layout.{seen}
 use Rattle.lineup.specs.Lying.{Lies}
+use Rattle.lineup.proofs.Worth.{worth}
 use Rattle.lineup.proofs.lineup.Lineup.reach.Given as goal
 
 abbrev pub invariant-loop-i : goal.invariant-loop-i
