@@ -1,6 +1,6 @@
 -- A call's fills, one after another. Assumes nothing.
-use Rattle.std.proofs.Common.{◌≡◌, ℕ, ◌+◌, ◌-◌, ◌<◌, ◌≤◌, min, Bool, eqb, leb, List, [], ◌∷◌, ◌++◌, length, drop, take, set, None, sym, refl, ap, ◌∙◌, subst, ⊎_elim, append_assoc, append-nil, arith, length-append, Option}
-use Rattle.std.proofs.lemmas.List.{drop_more, set_at, length_push}
+use Rattle.std.proofs.Common.{◌≡◌, ℕ, ◌+◌, ◌-◌, ◌<◌, ◌≤◌, min, Bool, eqb, leb, List, [], ◌∷◌, ◌++◌, length, drop, take, set, None, sym, refl, ap, ◌∙◌, subst, ⊎_elim, append_assoc, arith, length-append, Option}
+use Rattle.std.proofs.lemmas.List.{length_push}
 use Rattle.std.proofs.lemmas.Bool.{cond_both, leb-true, leb-false, cases_eq}
 use Rattle.orders.specs.declared.request.Side.{Side}
 use Rattle.orders.specs.declared.request.Side.TheVariants.{Buy, Sell}

@@ -1,18 +1,16 @@
 -- What a book refuses of an entry, told by its state. Assumes nothing.
-use Rattle.std.proofs.Common.{◌≡◌, ℕ, ◌+◌, ◌-◌, ◌<◌, ◌≤◌, Bool, true, false, ltb, leb, List, length, drop, Some, sym, refl, ap, ◌∙◌, arith, length-append, Option}
+use Rattle.std.proofs.Common.{◌≡◌, ℕ, ◌+◌, ◌<◌, ◌≤◌, Bool, true, false, ltb, leb, List, length, Some, sym, refl, ap, ◌∙◌, arith, length-append, Option}
 use Rattle.std.proofs.lemmas.Bool.{le-ltb, lt-ltb, le-leb, lt-leb}
-use Rattle.orders.specs.declared.request.Side.{Side}
 use Rattle.orders.specs.declared.request.Side.TheVariants.{Buy, Sell}
 use Rattle.orders.specs.declared.entry.Entry.{Entry}
 use Rattle.orders.specs.declared.request.Request.TheVariants.{Enter}
 use Rattle.orders.specs.declared.order.Order.{Order}
 use Rattle.orders.specs.declared.refusal.Cause.TheVariants.{BookFull, NumbersSpent, BelowMinimum}
-use Rattle.plain.specs.Orders.{keep, total, within, other}
-use Rattle.plain.specs.Book.{Book, side, resting, reach}
+use Rattle.plain.specs.Book.{Book, resting}
 use Rattle.orders.specs.Causes.{first, when}
 use Rattle.plain.specs.Gate.{early, unreached, refused_by}
 use Rattle.lineup.specs.declared.state.State.{State}
-use Rattle.lineup.specs.Lying.{Lies, count}
+use Rattle.lineup.specs.Lying.{Lies}
 
 module _ (places : List (Option Order)) (s : State) (b : Book) (l : Lies places s b) where
   resting_length : length (resting b) ≡ s.buys + s.sells

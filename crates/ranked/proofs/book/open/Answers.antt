@@ -1,4 +1,4 @@
-use Rattle.std.proofs.Common.{refl, arith, ap, ◌∙◌}
+use Rattle.std.proofs.Common.{arith}
 use Rattle.ranked.proofs.Opening.{opened}
 use Rattle.ranked.proofs.book.open.Goals as goal
 

@@ -1,4 +1,4 @@
-use Rattle.std.proofs.Common.{◌≡◌, length, take, refl, ◌∙◌, arith}
+use Rattle.std.proofs.Common.{◌≡◌, refl, ◌∙◌, arith}
 use Rattle.std.proofs.lemmas.List.{length-take-le, set-get_or}
 use Rattle.ranked.proofs.Called.{calling_none, calling_more, calling_used, calling_on, crossed_so, none_left}
 use Rattle.ranked.proofs.cross.crossed.Goals as goal

@@ -1,4 +1,4 @@
-use Rattle.std.proofs.Common.{◌≡◌, ◌+◌, ◌-◌, sym, ap, ◌∙◌, ⊎_elim, arith}
+use Rattle.std.proofs.Common.{◌≡◌, ◌+◌, ◌-◌, sym, ◌∙◌, ⊎_elim, arith}
 use Rattle.plain.specs.Book.{side}
 use Rattle.lineup.specs.Lying.{count}
 use Rattle.lineup.proofs.Laying.{gap_left}

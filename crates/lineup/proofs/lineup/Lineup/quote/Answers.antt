@@ -1,4 +1,4 @@
-use Rattle.std.proofs.Common.{ap, ◌∙◌, arith}
+use Rattle.std.proofs.Common.{◌∙◌, arith}
 use Rattle.plain.proofs.Price.{best_price_is_best}
 use Rattle.lineup.proofs.Quoting.{quoted}
 use Rattle.lineup.proofs.Sweeping.{swept_all}

@@ -1,4 +1,3 @@
-use Rattle.std.proofs.Common.{refl}
 use Rattle.lineup.proofs.Rested.{rewritten}
 use Rattle.lineup.proofs.lineup.Lineup.reduce.Goals as goal
 
