@@ -1,5 +1,4 @@
 pub mod Mirror
-pub mod Placing
 pub mod Removing
 pub mod Finding
 pub mod Laying

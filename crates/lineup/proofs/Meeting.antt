@@ -10,7 +10,7 @@ use Rattle.plain.specs.Price.{demand}
 use Rattle.plain.specs.Book.{Book}
 use Rattle.plain.specs.Sound.{Sound}
 use Rattle.lineup.specs.declared.state.State.{State}
-use Rattle.lineup.specs.declared.state.Sweep.{Sweep}
+use Rattle.lineup.specs.declared.sweep.Sweep.{Sweep}
 use Rattle.lineup.specs.Layout.{held}
 use Rattle.lineup.specs.Lying.{Lies}
 use Rattle.lineup.specs.Sweeps.{SweptBy}

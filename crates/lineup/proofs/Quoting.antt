@@ -4,13 +4,15 @@ use Rattle.std.proofs.lemmas.Bool.{cond_both, cond-true, cond-false, eq-eqb, ne_
 use Rattle.std.proofs.lemmas.Bool.Decides.{nat_tests}
 use Rattle.orders.specs.declared.order.Order.{Order}
 use Rattle.plain.specs.Price.{volume, imbalance, BestPrice, best_price, call_price, call_volume}
-use Rattle.lineup.specs.declared.state.Quote.{Quote}
-use Rattle.lineup.specs.Sweeps.{is_better, better, unquoted, BestBelow}
+use Rattle.quotes.specs.declared.quote.Quote.{Quote}
+use Rattle.quotes.specs.Quotes.{preferred_to, better}
+use Rattle.lineup.specs.Sweeps.{unquoted, BestBelow}
 
-taken_better : (best other : Quote) → is_better best other ≡ true → (best.volume ≤ other.volume) × (other.volume ≡ best.volume → other.imbalance < best.imbalance)
-taken_better best other t = (grind (arith, nat_tests), grind (arith, nat_tests))
+-- the better of two prices, of which the second is no lower
+taken_better : (best other : Quote) → best.price ≤ other.price → preferred_to other best ≡ true → (best.volume ≤ other.volume) × (other.volume ≡ best.volume → other.imbalance < best.imbalance)
+taken_better best other up t = (grind (arith, nat_tests), grind (arith, nat_tests))
 
-left_better : (best other : Quote) → is_better best other ≡ false → (other.volume ≤ best.volume) × (other.volume ≡ best.volume → best.imbalance ≤ other.imbalance)
+left_better : (best other : Quote) → preferred_to other best ≡ false → (other.volume ≤ best.volume) × (other.volume ≡ best.volume → best.imbalance ≤ other.imbalance)
 left_better best other t = (grind (arith, nat_tests), grind (arith, nat_tests))
 
 module _ (dealt gap : ℕ → ℕ) where
@@ -27,9 +29,9 @@ module _ (dealt gap : ℕ → ℕ) where
   pub best_more : (k later : ℕ) (best other : Quote) → BestBelow dealt gap k best → 1 ≤ k → k < later → other.price ≡ k →
       ((p : ℕ) → k ≤ p → p < later → (dealt p ≡ other.volume) × (gap p ≡ other.imbalance)) → BestBelow dealt gap later (better best other)
   best_more k later best other b low up is alike =
-      cond_both (is_better best other) other best (BestBelow dealt gap later)
+      cond_both (preferred_to other best) other best (BestBelow dealt gap later)
       (λ t.
-      let taken = taken_better best other t in
+      let taken = taken_better best other (rw is (price_under k best b)) t in
       let here = alike k (omega arith) up in
       record {
         most = λ p l h. ⊎_elim (λ under. let m = b.most p l under in omega arith) (λ over. let a = alike p over h in omega arith) (cases_lt p k);
@@ -48,6 +50,9 @@ module _ (dealt gap : ℕ → ℕ) where
         some = λ l. let s = b.some l in (s.0, omega arith, s.2, s.3);
       })
     where
+      price_under : (k : ℕ) (best : Quote) → BestBelow dealt gap k best → best.price ≤ k
+      price_under k best b = ⊎_elim (λ e. let z = b.none e in omega arith) (λ ne. let s = b.some (omega arith) in omega arith) (cases_eq best.volume 0)
+
       before_it : (k : ℕ) (best : Quote) → BestBelow dealt gap k best → (p : ℕ) → k ≤ p → best.price ≤ p
       before_it k best b p over = ⊎_elim (λ e. let z = b.none e in omega arith) (λ ne. let s = b.some (omega arith) in omega arith) (cases_eq best.volume 0)
 

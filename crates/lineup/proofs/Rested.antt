@@ -1,5 +1,5 @@
 -- A book after an order is put in its place, or taken out. Assumes nothing.
-use Rattle.std.proofs.Common.{◌≡◌, ℕ, suc, ◌+◌, ◌-◌, ◌<◌, List, ◌∷◌, ◌++◌, length, set, sym, refl, ap, ◌∙◌, subst, arith, length-append, Option, None, Some}
+use Rattle.std.proofs.Common.{◌≡◌, ℕ, suc, ◌+◌, ◌-◌, ◌<◌, cond, List, [], ◌∷◌, ◌++◌, length, set, sym, refl, ap, ◌∙◌, subst, arith, length-append, Option, None, Some}
 use lib.ListN.{length-map}
 use Rattle.std.proofs.lemmas.List.{map-append, set_at}
 use Rattle.orders.specs.declared.request.Side.{Side}
@@ -10,7 +10,8 @@ use Rattle.plain.specs.Orders.{other, placed}
 use Rattle.plain.specs.Book.{Book, side, put}
 use Rattle.plain.proofs.Placed.{placed_length}
 use Rattle.lineup.specs.declared.state.State.{State}
-use Rattle.lineup.specs.Layout.{seen, held}
+use Rattle.ranking.specs.Sequence.{inserted, inserted_at, Inserts}
+use Rattle.lineup.specs.Layout.{seen, held, Removed}
 use Rattle.lineup.specs.Lying.{Lies, Recounted, count}
 use Rattle.lineup.proofs.Laying.{before, before_length, before_more, lies_after, own_after, gap_left, starts_at, changed}
 
@@ -30,16 +31,24 @@ put_next : (rule : Rule) (t : Side) (o : Order) (b : Book) → (put rule t o b).
 put_next rule Buy o b = refl
 put_next rule Sell o b = refl
 
+-- the plain book's list with the order put among the others is that of the ranking
+inserted_is : (rule : Rule) (o : Order) (os : List Order) → inserted rule o os ≡ placed rule o os
+inserted_is rule o [] = refl
+inserted_is rule o (x ∷ xs) = ap (λ ys. cond (rule o x) (o ∷ x ∷ xs) (x ∷ ys)) (inserted_is rule o xs)
+
+put_among : (rule : Rule) (key : Order → ℕ) → Inserts key rule → (o : Order) (front : List (Option Order)) (y : Option Order) (os : List Order) →
+    inserted_at rule (length front) o (front ++ y ∷ held os) ≡ front ++ held (placed rule o os)
+put_among rule key inserts o front y os = inserts.among front y os o ∙ ap (λ xs. front ++ held xs) (inserted_is rule o os)
+
 pub both_counts : (t : Side) (s : State) → s.buys + s.sells ≡ count (other t) s + count t s
 both_counts Buy s = omega arith
 both_counts Sell s = omega arith
 
 module _ (t : Side) (places places' : List (Option Order)) (s s' : State) (b : Book) (start : ℕ) (starts : start ≡ s.capacity - count t s) (l : Lies places s b) where
-  pub rested : (rule : Rule) (o : Order) → s.buys + s.sells < s.capacity → Recounted t (count t s + 1) s s' →
-      ((front : List (Option Order)) (y : Option Order) (os : List Order) → length front ≡ start - 1 → s.capacity ≡ length places →
-      seen t places ≡ front ++ y ∷ held os → seen t places' ≡ front ++ held (placed rule o os)) →
+  pub rested : (rule : Rule) (key : Order → ℕ) → Inserts key rule → (o : Order) → s.buys + s.sells < s.capacity → Recounted t (count t s + 1) s s' →
+      seen t places' ≡ inserted_at rule (start - 1) o (seen t places) →
       Lies places' s' (put rule t o b)
-  rested rule o room r put_in =
+  rested rule key inserts o room r put_in =
       let own = side t b in
       let others = side (other t) b in
       let gap = l.gap - 1 in
@@ -51,7 +60,9 @@ module _ (t : Side) (places places' : List (Option Order)) (s s' : State) (b : B
       let more = placed_length rule o own in
       let is : seen t places ≡ before gap others ++ None ∷ held own =
       own_after places s b l t ∙ ap (λ m. before m others ++ held own) one ∙ before_more gap others (held own) in
-      let now : seen t places' ≡ before gap others ++ held (placed rule o own) = put_in (before gap others) None own (omega arith) l.size is in
+      let free : start - 1 ≡ length (before gap others) = omega arith in
+      let now : seen t places' ≡ before gap others ++ held (placed rule o own) =
+      put_in ∙ ap (inserted_at rule (start - 1) o) is ∙ ap (λ n. inserted_at rule n o (before gap others ++ None ∷ held own)) free ∙ put_among rule key inserts o (before gap others) None own in
       changed t places places' s s' b (put rule t o b) l gap
       (rw (put_own rule t o b, put_other rule t o b) (lies_after t places' gap (placed rule o own) others now))
       (put_other rule t o b)
@@ -62,8 +73,7 @@ module _ (t : Side) (places places' : List (Option Order)) (s s' : State) (b : B
 
   pub taken_out : (c : Book) (earlier : List Order) (o : Order) (later : List Order) (i : ℕ) → Recounted t (count t s - 1) s s' →
       side t b ≡ earlier ++ o ∷ later → length earlier + start ≡ i →
-      ((front ps : List (Option Order)) (y : Option Order) (qs : List (Option Order)) → length front ≡ start → length ps + start ≡ i →
-      seen t places ≡ front ++ (ps ++ y ∷ qs) → seen t places' ≡ front ++ None ∷ (ps ++ qs)) →
+      Removed start i (seen t places) (seen t places') →
       side t c ≡ earlier ++ later → side (other t) c ≡ side (other t) b → c.phase ≡ b.phase → c.next ≡ b.next → Lies places' s' c
   taken_out c earlier o later i r is at take_out own others phase next =
       let front = before l.gap (side (other t) b) in

@@ -14,8 +14,9 @@ use Rattle.plain.specs.Price.{demand, supply, volume, imbalance}
 use Rattle.plain.specs.Book.{Book}
 use Rattle.plain.specs.Sound.{LiveOrder, AllLive, Sound}
 use Rattle.plain.proofs.Kept.{total_append}
-use Rattle.lineup.specs.declared.state.Sweep.{Sweep}
-use Rattle.lineup.specs.Sweeps.{better, unquoted, quote_at, at, raised, buy_passed, sell_passed, NoWorse, BestFirst, BestBelow, Swept, SweptBy, PassedTo, NextBuy}
+use Rattle.lineup.specs.declared.sweep.Sweep.{Sweep}
+use Rattle.quotes.specs.Quotes.{better}
+use Rattle.lineup.specs.Sweeps.{unquoted, quote_at, at, raised, buy_passed, sell_passed, NoWorse, BestFirst, BestBelow, Swept, SweptBy, PassedTo, NextBuy}
 use Rattle.lineup.proofs.Quoting.{best_none, best_more}
 
 -- tonnes of all of a list, and of none

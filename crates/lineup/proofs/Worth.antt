@@ -7,9 +7,14 @@ use Rattle.plain.specs.Orders.{keep, total, within, other}
 use Rattle.plain.specs.Book.{Book, side}
 use Rattle.plain.proofs.Kept.{total_keep}
 use Rattle.lineup.specs.declared.state.State.{State}
-use Rattle.lineup.specs.Layout.{seen, held, worth}
+use Rattle.lineup.specs.Layout.{seen, held, worth_of}
 use Rattle.lineup.specs.Lying.{Lies, count}
 use Rattle.lineup.proofs.Laying.{before, own_after, starts_at}
+
+-- the tonnes in places that lie within the limit of an order of the side
+abbrev pub worth : Side → ℕ → List (Option Order) → ℕ
+worth side limit [] = 0
+worth side limit (p ∷ ps) = worth_of side limit p + worth side limit ps
 
 worth_held : (t : Side) (limit : ℕ) (os : List Order) → worth t limit (held os) ≡ total (keep (within t limit) os)
 worth_held t limit [] = refl

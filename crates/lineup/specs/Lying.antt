@@ -1,8 +1,9 @@
 -- When places and a state are those of a plain book. Assumes nothing.
-use Rattle.std.specs.Prelude.{◌≡◌, ℕ, ◌-◌, ◌≤◌, List, ◌++◌, reverse, length, replicate, Some, None, Option}
+use Rattle.std.specs.Prelude.{◌≡◌, ℕ, ◌-◌, ◌≤◌, true, List, ◌++◌, reverse, length, replicate, Some, None, Option}
 use Rattle.orders.specs.declared.request.Side.{Side}
 use Rattle.orders.specs.declared.request.Side.TheVariants.{Buy, Sell}
 use Rattle.orders.specs.declared.order.Order.{Order}
+use Rattle.orders.specs.declared.order.Phase.TheVariants.{Gathering}
 use Rattle.plain.specs.Orders.{other, find}
 use Rattle.plain.specs.Book.{Book, side, resting}
 use Rattle.lineup.specs.declared.state.State.{State}
@@ -17,6 +18,10 @@ abbrev pub count : Side → State → ℕ
 count Buy s = s.buys
 count Sell s = s.sells
 
+-- the state of a book with no orders, that was asked nothing yet
+abbrev pub vacant : ℕ → State
+vacant n = record { phase = Gathering; next = 1; buys = 0; sells = 0; capacity = n; is_fresh = true }
+
 -- a state but for the count of a side
 pub record Recounted (t : Side) (n : ℕ) (s r : State) : Type 0 where
   pub own : count t r ≡ n
@@ -24,11 +29,6 @@ pub record Recounted (t : Side) (n : ℕ) (s r : State) : Type 0 where
   pub capacity : r.capacity ≡ s.capacity
   pub phase : r.phase ≡ s.phase
   pub next : r.next ≡ s.next
-
--- the order in a place, if any
-abbrev pub occupant : Option Order → Option Order
-occupant None = None
-occupant (Some o) = Some o
 
 -- where an order of a number rests
 pub record Rests (n : ℕ) (s : State) (b : Book) (p : Spot) : Type 0 where

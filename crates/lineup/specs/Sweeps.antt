@@ -1,5 +1,5 @@
 -- A sweep up the prices of both sides' orders. Assumes nothing.
-use Rattle.std.specs.Prelude.{◌≡◌, ℕ, ◌+◌, ◌-◌, ◌^◌, ◌<◌, ◌≤◌, min, Bool, cond, ◌&&◌, ◌||◌, List, [], ◌∷◌, ◌++◌, reverse, length, Some, None, Option, ◌==◌, nat_lt}
+use Rattle.std.specs.Prelude.{◌≡◌, ℕ, ◌+◌, ◌-◌, ◌^◌, ◌<◌, ◌≤◌, min, cond, List, [], ◌∷◌, ◌++◌, reverse, length, Some, None, Option, nat_lt}
 use Rattle.std.specs.List.{AllByRecursion}
 use Rattle.orders.specs.declared.request.Side.{Side}
 use Rattle.orders.specs.declared.request.Side.TheVariants.{Buy, Sell}
@@ -7,15 +7,9 @@ use Rattle.orders.specs.declared.order.Order.{Order}
 use Rattle.plain.specs.Orders.{total}
 use Rattle.plain.specs.Price.{volume, imbalance}
 use Rattle.plain.specs.Book.{Book}
-use Rattle.lineup.specs.declared.state.Quote.{Quote}
-use Rattle.lineup.specs.declared.state.Sweep.{Sweep}
-
--- the better of two prices, of which the second is the higher
-abbrev pub is_better : Quote → Quote → Bool
-is_better best other = nat_lt best.volume other.volume || (best.volume == other.volume && nat_lt other.imbalance best.imbalance)
-
-abbrev pub better : Quote → Quote → Quote
-better best other = cond (is_better best other) other best
+use Rattle.quotes.specs.declared.quote.Quote.{Quote}
+use Rattle.quotes.specs.Quotes.{quoted, better}
+use Rattle.lineup.specs.declared.sweep.Sweep.{Sweep}
 
 -- no price, and nothing dealt
 abbrev pub unquoted : Quote
@@ -23,7 +17,7 @@ unquoted = record { price = 0; volume = 0; imbalance = 0 }
 
 -- what is dealt at the price of a sweep
 abbrev pub quote_at : Sweep → Quote
-quote_at w = record { price = w.price; volume = min w.demand w.supply; imbalance = (w.demand - w.supply) + (w.supply - w.demand) }
+quote_at w = quoted w.price w.demand w.supply
 
 -- a sweep at a price, and the best of what it left
 abbrev pub at : ℕ → Sweep → Sweep

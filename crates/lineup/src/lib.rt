@@ -1,9 +1,11 @@
 // Both sides of a book in one list of places, each in the sequence of its rule.
 #![tactic(auto)]
 
+pub mod lineup;
+pub mod mirrored;
 mod moves;
-pub mod price;
-mod seen;
-pub mod sides;
+mod price;
+mod sides;
 pub mod state;
-pub mod sums;
+mod sums;
+mod sweep;

@@ -1,39 +1,35 @@
-ghost use Rattle.std.specs.Prelude.{◌≡◌, ◌-◌, ◌^◌, min, length, drop};
-ghost use Rattle.lineup.specs.Layout.{seen, worth, worth_of};
+ghost use Rattle.std.specs.Prelude.{◌≡◌, ◌-◌, ◌^◌, min};
+ghost use Rattle.plain.specs.Orders.{keep, total, within, other};
+ghost use Rattle.plain.specs.Book.{Book, side as side_of};
+ghost use Rattle.lineup.specs.Layout.{worth_of};
+ghost use Rattle.lineup.specs.Lying.{Lies};
 
-use crate::seen::get;
+use crate::lineup::Lineup;
 use orders::order::Order;
 use orders::request::Side;
 use ranking::places::Places;
 
-// The tonnes in a place that lie within a limit.
+// The tonnes in a place that lie within the limit of an order of a side.
 fn tonnes_within(place: Option<Order>, side: Side, limit: u32) -> u32
     ensures { result ≡ worth_of side limit place }
 {
-    let Some(order) = place else {
-        return 0
-    };
-    let within = match side {
-        Side::Buy => order.price <= limit,
-        Side::Sell => limit <= order.price,
-    };
-    if within { order.remaining } else { 0 }
+    match place {
+        Some(order) if side.reaches(limit, order.price) => order.remaining,
+        _ => 0,
+    }
 }
 
-// The tonnes within a limit from a place on, or the most that the number holds.
-pub fn sum_within<L: Places<Record = Order>>(
-    list: &L,
-    seer: Side,
-    start: usize,
-    len: usize,
-    side: Side,
-    limit: u32,
-) -> u32
-    ensures { len ≡ length (L.Places.contents list.now) → result ≡ min (worth side limit (drop start (seen seer (L.Places.contents list.now)))) (2 ^ 32 - 1) }
-{
-    let mut sum: u32 = 0;
-    for i in start..len {
-        sum = sum.saturating_add(tonnes_within(get(list, seer, i), side, limit));
+impl<L: Places<Record = Order>> Lineup<L> {
+    // The tonnes that an order of a side with a limit reaches, or the most that the number holds.
+    pub fn reach(&self, side: Side, limit: u32) -> u32
+        ensures { (b : Book) → Lies (L.Places.contents self.now.mirrored.list) self.now.state b → result ≡ min (total (keep (within side limit) (side_of (other side) b))) (2 ^ 32 - 1) }
+    {
+        let seer = side.opposite();
+        let mut sum: u32 = 0;
+        // The loop counts, since it goes through a part of the places as a side sees them.
+        for i in self.state.start(seer)..self.state.capacity {
+            sum = sum.saturating_add(tonnes_within(self.get(seer, i), side, limit));
+        }
+        sum
     }
-    sum
 }

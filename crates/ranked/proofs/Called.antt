@@ -1,6 +1,6 @@
 -- A call's fills, one after another. Assumes nothing.
-use Rattle.std.proofs.Common.{◌≡◌, ℕ, ◌+◌, ◌-◌, ◌<◌, ◌≤◌, min, Bool, eqb, leb, List, [], ◌∷◌, ◌++◌, length, drop, set, None, sym, refl, ap, ◌∙◌, subst, ⊎_elim, append_assoc, append-nil, arith, length-append, Option}
-use Rattle.std.proofs.lemmas.List.{drop_more, set_at, length_push}
+use Rattle.std.proofs.Common.{◌≡◌, ℕ, ◌+◌, ◌-◌, ◌<◌, ◌≤◌, min, Bool, eqb, leb, List, [], ◌∷◌, ◌++◌, length, drop, take, set, None, sym, refl, ap, ◌∙◌, subst, ⊎_elim, append_assoc, arith, length-append, Option}
+use Rattle.std.proofs.lemmas.List.{length_push}
 use Rattle.std.proofs.lemmas.Bool.{cond_both, leb-true, leb-false, cases_eq}
 use Rattle.orders.specs.declared.request.Side.{Side}
 use Rattle.orders.specs.declared.request.Side.TheVariants.{Buy, Sell}
@@ -19,13 +19,13 @@ use Rattle.plain.specs.Gate.{refused_by}
 use Rattle.plain.proofs.Call.{call_fits}
 use Rattle.plain.proofs.FewFills.{fills_are_few}
 use Rattle.lineup.specs.declared.state.State.{State}
-use Rattle.ranked.specs.declared.state.Crossing.{Crossing}
 use Rattle.lineup.specs.Lying.{Lies}
 use Rattle.ranked.specs.Handling.{Accepted}
 use Rattle.ranked.specs.ByTurns.{cut_by}
 use Rattle.ranked.specs.Crossings.{holding, Crossable, Crossed}
 use Rattle.lineup.proofs.Laying.{on_both, relabelled, gap_left}
 use Rattle.ranked.proofs.Turning.{none_taken, settled_nothing, takes_within}
+use Rattle.ranked.proofs.Filling.{filled_more, filled_all, written_part}
 use Rattle.ranked.proofs.Crossing.{settled_first, cross_more}
 
 -- a side while n tonnes are to be dealt: the fills to come leave of it what all of them leave of the side as it was
@@ -118,11 +118,10 @@ module _ (price : ℕ) (b : Book) where
       }
 
   module _ (goal : List Fill) (places : List (Option Order)) (st : State) (left count : ℕ) (lent fills : List Fill) (g : Calling price b goal places st left count lent fills) where
-    pub calling_more : (places' : List (Option Order)) (r : Crossing) → 0 < left → count < length lent → Crossable price left g.book places' r →
-        Calling price b goal places' r.state (left - r.fill.quantity) (count + 1) lent (set fills count r.fill)
-    calling_more places' r some room c =
-        let q = r.fill.quantity in
-        let f = r.fill in
+    pub calling_more : (places' : List (Option Order)) (st' : State) (f : Fill) → 0 < left → count < length lent → Crossable price left g.book places' st' f →
+        Calling price b goal places' st' (left - f.quantity) (count + 1) lent (set fills count f)
+    calling_more places' st' f some room c =
+        let q = f.quantity in
         let x = c.buy in
         let y = c.sell in
         let xs = c.later_buys in
@@ -145,10 +144,7 @@ module _ (price : ℕ) (b : Book) where
           same_next = g.same_next;
           lies = c.lies;
           counted = length_push g.done f ∙ ap (λ k. k + 1) g.counted;
-          filled =
-              ap (λ v. set v count f) (g.filled ∙ ap (λ v. g.done ++ v) (drop_more lent count f room)) ∙
-              set_at g.done _ (drop (count + 1) lent) f count g.counted ∙
-              sym (append_assoc g.done (f ∷ []) (drop (count + 1) lent));
+          filled = filled_more g.done count lent fills g.counted g.filled f room;
           fills_are = append_assoc g.done (f ∷ []) rest ∙ ap (λ v. g.done ++ v) (sym come) ∙ g.fills_are;
           sides = on_both (λ t. Left t b.next (left - q) rest goal (side t b) (side t book)) Buy
               (left_more Buy b.next left f rest goal b.buys g.book.buys x xs c.buys_are (λ k. ap (names Buy k) c.fill_is) (omega arith) (one Buy))
@@ -158,13 +154,12 @@ module _ (price : ℕ) (b : Book) where
     pub calling_used : left ≡ 0 → (Lies places st (dealt_with b.phase b.next goal b)) × (count ≡ length goal) × (fills ≡ goal ++ drop (length goal) lent)
     calling_used e =
         let none : dealt (λ _ _. price) left g.book.buys g.book.sells ≡ [] = ap (λ ps. paired (λ _ _. price) ps (takes left g.book.sells)) (none_taken left g.book.buys e) in
-        let all : g.done ≡ goal = sym (append-nil g.done) ∙ ap (λ v. g.done ++ v) (sym none) ∙ g.fills_are in
-        let size : count ≡ length goal = sym g.counted ∙ ap length all in
+        let all = filled_all g.done count lent fills g.counted g.filled goal _ g.fills_are none in
         let end : (t : Side) → settled t goal (side t b) ≡ side t g.book = λ t.
         let h = g.sides t in sym h.leaves ∙ ap (λ fs. settled t fs (side t g.book)) none ∙ settled_nothing t t b.next (side t g.book) h.live in (
           relabelled places st st g.book (dealt_with b.phase b.next goal b) g.lies refl refl refl (end Buy) (end Sell) (g.lies.phase_is ∙ g.same_phase) (g.lies.next_is ∙ g.same_next),
-          size,
-          g.filled ∙ ap (λ v. v ++ drop count lent) all ∙ ap (λ k. goal ++ drop k lent) size,
+          all.0,
+          all.1,
         )
 
     -- while tonnes are left there are orders and fills to come
@@ -180,10 +175,11 @@ module _ (price : ℕ) (b : Book) where
         let c = g.counted in
         (omega arith, omega arith)
 
-pub crossed_so : {price n : ℕ} {b : Book} {places : List (Option Order)} {st : State} {count : ℕ} {lent left : List Fill} →
-    (Lies places st (dealt_with b.phase b.next (dealt (λ _ _. price) n b.buys b.sells) b)) × (count ≡ length (dealt (λ _ _. price) n b.buys b.sells)) × (left ≡ dealt (λ _ _. price) n b.buys b.sells ++ drop (length (dealt (λ _ _. price) n b.buys b.sells)) lent) →
-    Crossed price n b places st count lent left
-crossed_so t = record { lies = t.0; counted = t.1; list = t.2 }
+pub crossed_so : {price n : ℕ} {b : Book} {places : List (Option Order)} {st : State} {count k : ℕ} {lent part : List Fill} →
+    length (dealt (λ _ _. price) n b.buys b.sells) ≤ k → k ≤ length lent →
+    (Lies places st (dealt_with b.phase b.next (dealt (λ _ _. price) n b.buys b.sells) b)) × (count ≡ length (dealt (λ _ _. price) n b.buys b.sells)) × (part ≡ dealt (λ _ _. price) n b.buys b.sells ++ drop (length (dealt (λ _ _. price) n b.buys b.sells)) (take k lent)) →
+    Crossed price n b places st count lent (part ++ drop k lent)
+crossed_so few fits t = record { lies = t.0; counted = t.1; list = written_part _ _ _ _ few fits t.2 }
 
 pub none_left : (n : ℕ) → (0 < n → ⊥) → n ≡ 0
 none_left n h = ⊎_elim (λ e. e) (λ ne. absurd (h (omega arith))) (cases_eq n 0)
@@ -242,7 +238,7 @@ module _ (rule : Rule) (lawful : Lawful rule) (b : Book) (sound : Sound rule b) 
 
     pub call_accepted : (s st : State) (places : List (Option Order)) (count : ℕ) (lent left : List Fill) → refused_by s.capacity b Call (length lent) ≡ None → st.capacity ≡ s.capacity →
         Crossed price n (dealing b) places st count lent left →
-        Accepted rule b Call s places lent left (record { state = st; answer = AsCalled (record { price = price; volume = n; fills = count }) })
+        Accepted rule b Call s st places lent left (AsCalled (record { price = price; volume = n; fills = count }))
     call_accepted s st places count lent left may capacity w =
         let e = fills_are_these in
         record {

@@ -3,10 +3,12 @@ use Rattle.std.proofs.Common.{◌≡◌, ℕ, min, leb, List, [], ◌∷◌, len
 use Rattle.std.proofs.lemmas.Bool.{cond-true, le-leb, cases_lt}
 use Rattle.orders.specs.declared.request.Side.TheVariants.{Buy, Sell}
 use Rattle.orders.specs.declared.order.Order.{Order}
+use Rattle.orders.specs.declared.order.Fill.{Fill}
 use Rattle.plain.specs.Book.{Book}
 use Rattle.venue.specs.Questions.{ranked}
-use Rattle.ranked.specs.declared.state.Turn.{Turn}
-use Rattle.ranked.specs.declared.state.Crossing.{Crossing}
+use Rattle.ranked.specs.declared.deal.Turn.{Turn}
+use Rattle.lineup.specs.declared.state.State.{State}
+use Rattle.orders.specs.Entries.{fill_at}
 use Rattle.lineup.specs.Lying.{Lies}
 use Rattle.ranked.specs.ByTurns.{cut_by, Turned}
 use Rattle.ranked.specs.Crossings.{holding, Crossable}
@@ -21,22 +23,16 @@ cut_least n x xs =
     (λ whole. cond-true (leb r n) xs _ (le-leb r n whole) ∙ sym (cond-true (leb r (min n r)) xs _ (le-leb r (min n r) (omega arith))))
     (cases_lt n r)
 
-abbrev pub crossing : ℕ → Turn → Turn → Crossing
-crossing price bought sold = record {
-  state = sold.state;
-  fill = record { buy = bought.order.number; sell = sold.order.number; buyer = bought.order.member; seller = sold.order.member; price = price; quantity = sold.tonnes };
-}
-
-module _ (price n m : ℕ) (b : Book) (sell : Order) (best : Some sell ≡ ranked 1 b.sells) (places : List (Option Order)) (bought : Turn) (buying : Turned Buy m b places bought) where
+module _ (price n m : ℕ) (b : Book) (sell : Order) (best : Some sell ≡ ranked 1 b.sells) (places : List (Option Order)) (st : State) (bought : Turn) (buying : Turned Buy m b places st bought) where
   -- what the turn with the best buy leaves
   abbrev pub bought_from : Book
   bought_from = holding (cut_by m bought.order buying.later) b.sells b
 
-  pub bought_lies : Lies places bought.state bought_from
+  pub bought_lies : Lies places st bought_from
   bought_lies = buying.lies bought_from refl refl refl refl
 
-  pub crosses : m ≡ min n sell.remaining → (places' : List (Option Order)) (sold : Turn) → Turned Sell bought.tonnes bought_from places' sold → Crossable price n b places' (crossing price bought sold)
-  crosses m-is places' sold selling =
+  pub crosses : m ≡ min n sell.remaining → (places' : List (Option Order)) (st' : State) (sold : Turn) → Turned Sell bought.tonnes bought_from places' st' sold → (f : Fill) → f ≡ fill_at price bought.order sold.order sold.tonnes → Crossable price n b places' st' f
+  crosses m-is places' st' sold selling f is =
       let first = best_some sell b.sells best in
       let same : sold.order ≡ sell = let e : sold.order ∷ selling.later ≡ sell ∷ first.0 = sym selling.are ∙ first.1 in cc in
       let left = ap (λ o. o.remaining) same in
@@ -46,7 +42,7 @@ module _ (price n m : ℕ) (b : Book) (sell : Order) (best : Some sell ≡ ranke
       let buy_cut : q ≡ min m bought.order.remaining = omega arith in
       let sell_cut : q ≡ bought.tonnes = omega arith in
       let end = holding (cut_by q bought.order buying.later) (cut_by q sold.order selling.later) b in
-      record {
+      rw is (record {
         buy = bought.order;
         sell = sold.order;
         later_buys = buying.later;
@@ -60,7 +56,7 @@ module _ (price n m : ℕ) (b : Book) (sell : Order) (best : Some sell ≡ ranke
             (ap (λ k. cut_by k bought.order buying.later) buy_cut ∙ sym (cut_least m bought.order buying.later))
             refl
             refl;
-      }
+      })
 
 -- with no order on a side there is no fill
 pub no_buys : (b : Book) → b.buys ≡ [] → min (length b.buys) (length b.sells) ≡ 0

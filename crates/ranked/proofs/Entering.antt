@@ -5,6 +5,7 @@ use Rattle.orders.specs.declared.request.Side.{Side}
 use Rattle.orders.specs.declared.request.Side.TheVariants.{Buy, Sell}
 use Rattle.orders.specs.declared.entry.Entry.{Entry}
 use Rattle.orders.specs.declared.request.Request.TheVariants.{Enter}
+use Rattle.orders.specs.declared.answer.Answer.{Answer}
 use Rattle.orders.specs.declared.order.Order.{Order}
 use Rattle.orders.specs.declared.order.Fill.{Fill}
 use Rattle.orders.specs.declared.order.Phase.TheVariants.{Dealing}
@@ -18,7 +19,6 @@ use Rattle.plain.proofs.Entry.{dealt_at_tonnes}
 use Rattle.plain.proofs.StaysSound.{next_is_new, sides_distinct}
 use Rattle.plain.proofs.Thinned.{keep_thins, thinned_live}
 use Rattle.lineup.specs.declared.state.State.{State}
-use Rattle.ranked.specs.declared.state.Done.{Done}
 use Rattle.lineup.specs.Lying.{Lies}
 use Rattle.ranked.specs.Handling.{Accepted}
 use Rattle.ranked.specs.ByTurns.{by_turns, left_by, replaced, TurnsTaken}
@@ -79,13 +79,13 @@ module _ (rule : Rule) (b : Book) (sound : Sound rule b) where
         (ap (λ fs. settled t fs (side t b)) fills_by_turns ∙ settled_turns e.side (order e b.next) t b.next n (side t b) (live t) (sides_distinct sound t))
 
     -- what the turns come to, in the words of the plain book
-    pub turns_come_to : (number n : ℕ) (places : List (Option Order)) (st : State) (count : ℕ) (lent left : List Fill) → number ≡ b.next → n ≡ min e.quantity (reach e b) →
-        TurnsTaken e.side (order e number) n (number_given b) places st count lent left →
+    pub turns_come_to : (taker : Order) (n : ℕ) (places : List (Option Order)) (st : State) (count : ℕ) (lent left : List Fill) → taker ≡ order e b.next → n ≡ min e.quantity (reach e b) →
+        TurnsTaken taker.side taker n (number_given b) places st count lent left →
         (Lies places st (dealt_with b.phase (b.next + 1) (entry_fills Dealing e b) b)) × (count ≡ length (entry_fills Dealing e b)) × (left ≡ entry_fills Dealing e b ++ drop (length (entry_fills Dealing e b)) lent)
-    turns_come_to number n places st count lent left number_is n_is taken =
+    turns_come_to taker n places st count lent left taker_is n_is taken =
         let t = other e.side in
         let k = min e.quantity (reach e b) in
-        let w = subst (λ m. TurnsTaken e.side (order e b.next) m (number_given b) places st count lent left) n_is (subst (λ m. TurnsTaken e.side (order e m) n (number_given b) places st count lent left) number_is taken) in
+        let w = subst (λ m. TurnsTaken e.side (order e b.next) m (number_given b) places st count lent left) n_is (subst (λ o. TurnsTaken o.side o n (number_given b) places st count lent left) taker_is taken) in
         let fills = ap (by_turns e.side (order e b.next) k) (side_given t b) ∙ sym fills_by_turns in
         let book = ap (λ os. replaced t (left_by k os) (number_given b)) (side_given t b) ∙ sym turns_deal in
         (subst (Lies places st) book w.lies, w.counted ∙ ap length fills, w.list ∙ ap (λ gs. gs ++ drop (length gs) lent) fills)
@@ -97,13 +97,13 @@ turns_fit places st b l s o n =
     let room = gap_left places st b l s in
     omega arith
 
-pub entry_accepted : (rule : Rule) (b : Book) (e : Entry) (fs : List Fill) (s : State) (places : List (Option Order)) (lent left : List Fill) (d : Done) →
-    entry_fills b.phase e b ≡ fs → refused_by s.capacity b (Enter e) (length lent) ≡ None → d.answer ≡ (entered rule e b fs).answer → left ≡ fs ++ drop (length fs) lent →
-    Lies places d.state (entered rule e b fs).book → d.state.capacity ≡ s.capacity → Accepted rule b (Enter e) s places lent left d
-entry_accepted rule b e fs s places lent left d are may answered list lies capacity = record {
+pub entry_accepted : (rule : Rule) (b : Book) (e : Entry) (fs : List Fill) (s s' : State) (places : List (Option Order)) (lent left : List Fill) (a : Answer) →
+    entry_fills b.phase e b ≡ fs → refused_by s.capacity b (Enter e) (length lent) ≡ None → a ≡ (entered rule e b fs).answer → left ≡ fs ++ drop (length fs) lent →
+    Lies places s' (entered rule e b fs).book → s'.capacity ≡ s.capacity → Accepted rule b (Enter e) s s' places lent left a
+entry_accepted rule b e fs s s' places lent left a are may answered list lies capacity = record {
   admitted = may;
   answered = answered ∙ sym (ap (λ gs. (entered rule e b gs).answer) are);
   list = list ∙ sym (ap (λ gs. gs ++ drop (length gs) lent) are);
-  lies = subst (λ gs. Lies places d.state (entered rule e b gs).book) (sym are) lies;
+  lies = subst (λ gs. Lies places s' (entered rule e b gs).book) (sym are) lies;
   capacity = capacity;
 }

@@ -1,30 +1,18 @@
 -- What a book refuses of an entry, told by its state. Assumes nothing.
-use Rattle.std.proofs.Common.{◌≡◌, ℕ, ◌+◌, ◌-◌, ◌<◌, ◌≤◌, Bool, true, false, ltb, leb, List, length, drop, Some, sym, refl, ap, ◌∙◌, arith, length-append, Option}
+use Rattle.std.proofs.Common.{◌≡◌, ℕ, ◌+◌, ◌<◌, ◌≤◌, Bool, true, false, ltb, leb, List, length, Some, sym, refl, ap, ◌∙◌, arith, length-append, Option}
 use Rattle.std.proofs.lemmas.Bool.{le-ltb, lt-ltb, le-leb, lt-leb}
-use Rattle.orders.specs.declared.request.Side.{Side}
 use Rattle.orders.specs.declared.request.Side.TheVariants.{Buy, Sell}
 use Rattle.orders.specs.declared.entry.Entry.{Entry}
 use Rattle.orders.specs.declared.request.Request.TheVariants.{Enter}
 use Rattle.orders.specs.declared.order.Order.{Order}
 use Rattle.orders.specs.declared.refusal.Cause.TheVariants.{BookFull, NumbersSpent, BelowMinimum}
-use Rattle.plain.specs.Orders.{keep, total, within, other}
-use Rattle.plain.specs.Book.{Book, side, resting, reach}
+use Rattle.plain.specs.Book.{Book, resting}
 use Rattle.orders.specs.Causes.{first, when}
 use Rattle.plain.specs.Gate.{early, unreached, refused_by}
 use Rattle.lineup.specs.declared.state.State.{State}
-use Rattle.lineup.proofs.Worth.{worth_from}
-use Rattle.lineup.specs.Layout.{seen, worth}
-use Rattle.lineup.specs.Lying.{Lies, count}
+use Rattle.lineup.specs.Lying.{Lies}
 
 module _ (places : List (Option Order)) (s : State) (b : Book) (l : Lies places s b) where
-  pub reach_is : (e : Entry) (u t : Side) (limit start : ℕ) → u ≡ e.side → t ≡ other u → limit ≡ e.price → start ≡ s.capacity - count t s →
-      worth u limit (drop start (seen t places)) ≡ reach e b
-  reach_is e u t limit start own theirs price is =
-      worth_from places s b l t u limit start is ∙
-      ap (λ v. total (keep (within v limit) (side t b))) own ∙
-      ap (λ v. total (keep (within e.side v) (side t b))) price ∙
-      ap (λ v. total (keep (within e.side e.price) (side v b))) (theirs ∙ ap other own)
-
   resting_length : length (resting b) ≡ s.buys + s.sells
   resting_length = let c = l.counts Buy in let d = l.counts Sell in length-append b.buys b.sells ∙ omega arith
 

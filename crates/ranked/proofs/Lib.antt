@@ -2,6 +2,7 @@ pub mod Opening
 pub mod Cancelled
 pub mod Gating
 pub mod Turning
+pub mod Filling
 pub mod Going
 pub mod Entering
 pub mod Crossing

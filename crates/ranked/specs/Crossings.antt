@@ -5,7 +5,6 @@ use Rattle.orders.specs.declared.order.Fill.{Fill}
 use Rattle.plain.specs.Dealing.{fill, dealt}
 use Rattle.plain.specs.Book.{Book, dealt_with}
 use Rattle.lineup.specs.declared.state.State.{State}
-use Rattle.ranked.specs.declared.state.Crossing.{Crossing}
 use Rattle.lineup.specs.Lying.{Lies}
 use Rattle.ranked.specs.ByTurns.{cut_by}
 
@@ -14,20 +13,20 @@ abbrev pub holding : List Order → List Order → Book → Book
 holding buys sells b = record { phase = b.phase; next = b.next; buys = buys; sells = sells }
 
 -- the best buy and the best sell dealt the least of n tonnes and what remains of them
-pub record Crossable (price n : ℕ) (b : Book) (places : List (Option Order)) (r : Crossing) : Type 0 where
+pub record Crossable (price n : ℕ) (b : Book) (places : List (Option Order)) (st : State) (f : Fill) : Type 0 where
   pub buy : Order
   pub sell : Order
   pub later_buys : List Order
   pub later_sells : List Order
   pub buys_are : b.buys ≡ buy ∷ later_buys
   pub sells_are : b.sells ≡ sell ∷ later_sells
-  pub tonnes_are : r.fill.quantity ≡ min (min n buy.remaining) (min n sell.remaining)
-  pub fill_is : r.fill ≡ fill (λ _ _. price) buy sell r.fill.quantity
-  pub lies : Lies places r.state (holding (cut_by r.fill.quantity buy later_buys) (cut_by r.fill.quantity sell later_sells) b)
+  pub tonnes_are : f.quantity ≡ min (min n buy.remaining) (min n sell.remaining)
+  pub fill_is : f ≡ fill (λ _ _. price) buy sell f.quantity
+  pub lies : Lies places st (holding (cut_by f.quantity buy later_buys) (cut_by f.quantity sell later_sells) b)
 
-abbrev pub CrossTaken : ℕ → ℕ → Book → List (Option Order) → Option Crossing → Type 0
-CrossTaken price n b places None = min (length b.buys) (length b.sells) ≡ 0
-CrossTaken price n b places (Some r) = Crossable price n b places r
+abbrev pub CrossTaken : ℕ → ℕ → Book → List (Option Order) → State → Option Fill → Type 0
+CrossTaken price n b places st None = min (length b.buys) (length b.sells) ≡ 0
+CrossTaken price n b places st (Some f) = Crossable price n b places st f
 
 -- what came of a call's fills at a price: the book, how many fills, and the fill list
 pub record Crossed (price n : ℕ) (b : Book) (places : List (Option Order)) (st : State) (count : ℕ) (lent left : List Fill) : Type 0 where

@@ -7,71 +7,46 @@ ghost use Rattle.plain.specs.Sound.{Sound};
 ghost use Rattle.lineup.specs.Lying.{Lies};
 ghost use Rattle.ranked.specs.Crossings.{CrossTaken, Crossed};
 
-use crate::deal::{narrowed, turn};
-use crate::state::{Crossing, Turns};
-use lineup::sides::at_rank;
-use lineup::state::State;
+use crate::deal::{narrowed, take_turn};
+use lineup::lineup::Lineup;
 use orders::order::{Fill, Order};
 use orders::request::Side;
 use ranking::places::Places;
 
 // Deals up to n tonnes between the best buy and the best sell, if there are both.
-fn cross<L: Places<Record = Order>>(
-    list: &mut L,
-    state: State,
-    price: u32,
-    n: u32,
-) -> Option<Crossing>
-    ensures few { IfSome result (λ p. (p.state.capacity ≡ state.capacity) × (p.state.buys + p.state.sells ≤ state.buys + state.sells) × (p.fill.quantity ≤ n)) }
-    ensures taken { (b : Book) → Lies (L.Places.contents list.old) state b → CrossTaken price n b (L.Places.contents list.new) result }
+fn cross<L: Places<Record = Order>>(lineup: &mut Lineup<L>, price: u32, n: u32) -> Option<Fill>
+    ensures few { (lineup.new.state.capacity ≡ lineup.old.state.capacity) × IfSome result (λ f. f.quantity ≤ n) }
+    ensures taken { (b : Book) → Lies (L.Places.contents lineup.old.mirrored.list) lineup.old.state b → CrossTaken price n b (L.Places.contents lineup.new.mirrored.list) lineup.new.state result }
 {
-    let sell = at_rank(list, &state, Side::Sell, 1)?;
-    let bought = turn(list, state, Side::Buy, n.min(sell.remaining))?;
-    let sold = turn(list, bought.state, Side::Sell, bought.tonnes)?;
-    Some(Crossing {
-        state: sold.state,
-        fill: Fill {
-            buy: bought.order.number,
-            sell: sold.order.number,
-            buyer: bought.order.member,
-            seller: sold.order.member,
-            price,
-            quantity: sold.tonnes,
-        },
-    })
+    let sell = lineup.at_rank(Side::Sell, 1)?;
+    let bought = take_turn(lineup, Side::Buy, n.min(sell.remaining))?;
+    let sold = take_turn(lineup, Side::Sell, bought.tonnes)?;
+    Some(Fill::between(&bought.order, &sold.order, price, sold.tonnes))
 }
 
-// Deals n tonnes between the best orders of the two sides, fill by fill, at a price.
+// Deals n tonnes between the best orders of the two sides, fill by fill, at a price: how many fills it wrote.
 pub(crate) fn crossed<L: Places<Record = Order>>(
-    list: &mut L,
-    mut state: State,
+    lineup: &mut Lineup<L>,
     price: u32,
     n: u32,
     fills: &mut [Fill],
-) -> Turns
-    requires { state.capacity ≤ length fills.old }
-    ensures capacity { result.state.capacity ≡ state.capacity }
-    ensures dealt { (rule : Rule) (b : Book) → Lies (L.Places.contents list.old) state b → Sound rule b → n ≤ total b.buys → n ≤ total b.sells → length (dealt (λ _ _. price) n b.buys b.sells) ≤ state.capacity → Crossed price n b (L.Places.contents list.new) result.state result.fills fills.old fills.new }
+) -> u32
+    requires { lineup.old.state.capacity ≤ length fills.old }
+    ensures capacity { lineup.new.state.capacity ≡ lineup.old.state.capacity }
+    ensures dealt { (rule : Rule) (b : Book) → Lies (L.Places.contents lineup.old.mirrored.list) lineup.old.state b → Sound rule b → n ≤ total b.buys → n ≤ total b.sells → length (dealt (λ _ _. price) n b.buys b.sells) ≤ lineup.old.state.capacity → Crossed price n b (L.Places.contents lineup.new.mirrored.list) lineup.new.state result fills.old fills.new }
 {
-    let capacity = state.capacity;
+    // The loop is like that of `deal`: one for both would take the step as a closure over the lineup, with more to say of it than the loop has lines.
+    let capacity = lineup.state.capacity;
     let mut left = n;
-    let mut count: usize = 0;
-    while count < capacity {
+    for (count, place) in fills[..capacity].iter_mut().enumerate() {
         if left == 0 {
-            break;
+            return narrowed(count);
         }
-        match cross(list, state, price, left) {
-            Some(crossing) => {
-                fills[count] = crossing.fill;
-                left -= crossing.fill.quantity;
-                state = crossing.state;
-            }
-            None => break,
-        }
-        count += 1;
+        let Some(fill) = cross(lineup, price, left) else {
+            return narrowed(count)
+        };
+        *place = fill;
+        left -= fill.quantity;
     }
-    Turns {
-        state,
-        fills: narrowed(count),
-    }
+    narrowed(capacity)
 }

@@ -1,42 +1,20 @@
-ghost use Rattle.std.specs.Prelude.{◌≡◌, ◌+◌, ◌-◌, ◌^◌, ◌<◌, ◌≤◌, min, None};
+ghost use Rattle.std.specs.Prelude.{◌≡◌, ◌+◌, ◌-◌, ◌^◌, ◌<◌, ◌≤◌, min, IfOk, MatchResult, None, Some};
 ghost use Rattle.orders.specs.declared.request.Request.TheVariants.{Enter};
-ghost use Rattle.plain.specs.Orders.{other};
 ghost use Rattle.plain.specs.Book.{Book, reach as reachOf};
 ghost use Rattle.plain.specs.Gate.{early as isEarly, unreached as isUnreached, refused_by};
 ghost use Rattle.lineup.specs.Lying.{Lies};
 
-use lineup::sides::start;
-use lineup::state::State;
-use lineup::sums::sum_within;
+use lineup::lineup::Lineup;
 use orders::entry::Entry;
 use orders::order::{Order, Phase};
 use orders::refusal::Cause;
-use orders::request::{Life, Side};
 use ranking::places::Places;
 
-pub fn opposite(side: Side) -> Side
-    ensures { result ≡ other side }
-{
-    match side {
-        Side::Buy => Side::Sell,
-        Side::Sell => Side::Buy,
-    }
-}
-
 // The tonnes in an entry's reach, or the most that the number holds.
-pub fn reach<L: Places<Record = Order>>(list: &L, state: &State, entry: &Entry) -> u32
-    ensures { (b : Book) → Lies (L.Places.contents list.now) state.now b → result ≡ min (reachOf entry.now b) (2 ^ 32 - 1) }
+pub(crate) fn reach<L: Places<Record = Order>>(lineup: &Lineup<L>, entry: &Entry) -> u32
+    ensures { (b : Book) → Lies (L.Places.contents lineup.now.mirrored.list) lineup.now.state b → result ≡ min (reachOf entry.now b) (2 ^ 32 - 1) }
 {
-    let side = entry.side();
-    let seer = opposite(side);
-    sum_within(
-        list,
-        seer,
-        start(state, seer),
-        state.capacity,
-        side,
-        entry.price(),
-    )
+    lineup.reach(entry.side(), entry.price())
 }
 
 fn early(phase: Phase, entry: &Entry) -> bool
@@ -44,51 +22,43 @@ fn early(phase: Phase, entry: &Entry) -> bool
 {
     match phase {
         Phase::Dealing => false,
-        Phase::Gathering => {
-            if entry.minimum() > 0 {
-                return true;
-            }
-            match entry.life() {
-                Life::Rest => false,
-                Life::Kill => true,
-            }
-        }
+        Phase::Gathering => entry.needs_dealing(),
     }
 }
 
-fn unreached<L: Places<Record = Order>>(list: &L, state: &State, entry: &Entry) -> bool
-    ensures { (b : Book) → Lies (L.Places.contents list.now) state.now b → result ≡ isUnreached b.phase entry.now b }
+fn unreached<L: Places<Record = Order>>(lineup: &Lineup<L>, entry: &Entry) -> bool
+    ensures { (b : Book) → Lies (L.Places.contents lineup.now.mirrored.list) lineup.now.state b → result ≡ isUnreached b.phase entry.now b }
 {
-    match state.phase {
+    match lineup.state.phase {
         Phase::Gathering => false,
-        Phase::Dealing => reach(list, state, entry) < entry.minimum(),
+        Phase::Dealing => reach(lineup, entry) < entry.minimum(),
     }
 }
 
-// What every book refuses of an entry.
-pub fn refused<L: Places<Record = Order>>(
-    list: &L,
-    state: &State,
+// Admits an entry with a fill list of a length, or says why every book refuses it.
+pub(crate) fn admit<L: Places<Record = Order>>(
+    lineup: &Lineup<L>,
     entry: &Entry,
     room: usize,
-) -> Option<Cause>
-    ensures safe { result ≡ None → (state.now.buys + state.now.sells < state.now.capacity) × (state.now.next ≤ 999999) × (state.now.capacity ≤ room) }
-    ensures refused { (b : Book) → Lies (L.Places.contents list.now) state.now b → result ≡ refused_by state.now.capacity b (Enter entry.now) room }
+) -> Result<(), Cause>
+    ensures safe { IfOk result (λ _. (lineup.now.state.buys + lineup.now.state.sells < lineup.now.state.capacity) × (lineup.now.state.next ≤ 999999) × (lineup.now.state.capacity ≤ room)) }
+    ensures refused { (b : Book) → Lies (L.Places.contents lineup.now.mirrored.list) lineup.now.state b → MatchResult result (λ _. refused_by lineup.now.state.capacity b (Enter entry.now) room ≡ None) (λ cause. refused_by lineup.now.state.capacity b (Enter entry.now) room ≡ Some cause) }
 {
+    let state = lineup.state;
     if room < state.capacity {
-        return Some(Cause::FillListShort);
+        return Err(Cause::FillListShort);
     }
     if early(state.phase, entry) {
-        return Some(Cause::WrongPhase);
+        return Err(Cause::WrongPhase);
     }
     if state.capacity.saturating_sub(state.buys) <= state.sells {
-        return Some(Cause::BookFull);
+        return Err(Cause::BookFull);
     }
     if state.next > 999999 {
-        return Some(Cause::NumbersSpent);
+        return Err(Cause::NumbersSpent);
     }
-    if unreached(list, state, entry) {
-        return Some(Cause::BelowMinimum);
+    if unreached(lineup, entry) {
+        return Err(Cause::BelowMinimum);
     }
-    None
+    Ok(())
 }

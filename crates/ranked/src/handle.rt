@@ -1,4 +1,4 @@
-ghost use Rattle.std.specs.Prelude.{◌≡◌, List, IfOk};
+ghost use Rattle.std.specs.Prelude.{◌≡◌, List};
 ghost use Rattle.orders.specs.declared.request.Request.TheVariants.{Withdraw, Halt};
 ghost use Rattle.orders.specs.declared.order.Fill.{Fill};
 ghost use Rattle.plain.specs.Rule.{Rule};
@@ -7,11 +7,7 @@ ghost use Rattle.plain.specs.Sound.{Sound};
 ghost use Rattle.lineup.specs.Lying.{Lies};
 ghost use Rattle.ranked.specs.Handling.{Handled};
 
-use crate::call::call;
-use crate::entry::enter;
-use crate::state::Done;
-use lineup::sides::{spot, take_out};
-use lineup::state::State;
+use crate::book::Ranked;
 use orders::answer::{Answer, Withdrawn};
 use orders::cancel::Cancel;
 use orders::order::{Fill, Order, Phase};
@@ -20,64 +16,50 @@ use orders::request::Request;
 use ranking::places::Places;
 use ranking::rank::{Priority, Ranking};
 
-pub fn withdraw<L: Places<Record = Order>>(
-    list: &mut L,
-    state: State,
-    cancel: &Cancel,
-) -> Result<Done, Cause>
-    ensures capacity { IfOk result (λ d. d.state.capacity ≡ state.capacity) }
-    ensures handled { (rule : Rule) (b : Book) (lent : List Fill) → Lies (L.Places.contents list.old) state b → Sound rule b → Handled rule b (Withdraw cancel.now) state (L.Places.contents list.old) (L.Places.contents list.new) lent lent result }
-{
-    let number = cancel.number();
-    let found = match spot(list, &state, number) {
-        Some(found) => found,
-        None => return Err(Cause::NoSuchOrder),
-    };
-    let order = found.order;
-    if order.member != cancel.member() {
-        return Err(Cause::NoSuchOrder);
-    }
-    let state = take_out(list, state, found.side, found.place);
-    Ok(Done {
-        state,
-        answer: Answer::Withdrawn(Withdrawn {
+impl<L: Places<Record = Order>, R: Priority> Ranked<L, R> {
+    fn withdraw(&mut self, cancel: &Cancel) -> Result<Answer, Cause>
+        ensures same { (self.new.rule ≡ self.old.rule) × (self.new.lineup.state.capacity ≡ self.old.lineup.state.capacity) }
+        ensures handled { (rule : Rule) (b : Book) (lent : List Fill) → Lies (L.Places.contents self.old.lineup.mirrored.list) self.old.lineup.state b → Sound rule b → Handled rule b (Withdraw cancel.now) self.old.lineup.state (L.Places.contents self.old.lineup.mirrored.list) self.new.lineup.state (L.Places.contents self.new.lineup.mirrored.list) lent lent result }
+    {
+        let number = cancel.number();
+        let Some(found) = self.lineup.spot(number) else {
+            return Err(Cause::NoSuchOrder)
+        };
+        let order = found.order;
+        if order.member != cancel.member() {
+            return Err(Cause::NoSuchOrder);
+        }
+        self.lineup.take_out(found.side, found.place);
+        Ok(Answer::Withdrawn(Withdrawn {
             number,
             side: order.side,
             tonnes: order.remaining,
-        }),
-    })
-}
-
-pub fn halt<L: Places<Record = Order>>(list: &L, mut state: State) -> Result<Done, Cause>
-    ensures capacity { IfOk result (λ d. d.state.capacity ≡ state.capacity) }
-    ensures handled { (rule : Rule) (b : Book) (lent : List Fill) → Lies (L.Places.contents list.now) state b → Handled rule b Halt state (L.Places.contents list.now) (L.Places.contents list.now) lent lent result }
-{
-    match state.phase {
-        Phase::Gathering => return Err(Cause::WrongPhase),
-        Phase::Dealing => {}
+        }))
     }
-    state.phase = Phase::Gathering;
-    Ok(Done {
-        state,
-        answer: Answer::Halted,
-    })
-}
 
-// Answers a request, or refuses it and changes nothing.
-pub fn handle<L: Places<Record = Order>, R: Priority>(
-    list: &mut L,
-    rule: &R,
-    state: State,
-    request: Request,
-    fills: &mut [Fill],
-) -> Result<Done, Cause>
-    ensures capacity { IfOk result (λ d. d.state.capacity ≡ state.capacity) }
-    ensures handled { (b : Book) → Lies (L.Places.contents list.old) state b → Sound (R.Ranking.ahead rule.now) b → Handled (R.Ranking.ahead rule.now) b request state (L.Places.contents list.old) (L.Places.contents list.new) fills.old fills.new result }
-{
-    match request {
-        Request::Enter(entry) => enter(list, rule, state, &entry, fills),
-        Request::Withdraw(cancel) => withdraw(list, state, &cancel),
-        Request::Call => call(list, rule, state, fills),
-        Request::Halt => halt(list, state),
+    fn halt(&mut self) -> Result<Answer, Cause>
+        ensures same { (self.new.rule ≡ self.old.rule) × (self.new.lineup.state.capacity ≡ self.old.lineup.state.capacity) }
+        ensures handled { (rule : Rule) (b : Book) (lent : List Fill) → Lies (L.Places.contents self.old.lineup.mirrored.list) self.old.lineup.state b → Handled rule b Halt self.old.lineup.state (L.Places.contents self.old.lineup.mirrored.list) self.new.lineup.state (L.Places.contents self.new.lineup.mirrored.list) lent lent result }
+    {
+        match self.lineup.state.phase {
+            Phase::Gathering => Err(Cause::WrongPhase),
+            Phase::Dealing => {
+                self.lineup.state.phase = Phase::Gathering;
+                Ok(Answer::Halted)
+            }
+        }
+    }
+
+    // Answers a request, or refuses it and changes nothing.
+    pub(crate) fn handle(&mut self, request: Request, fills: &mut [Fill]) -> Result<Answer, Cause>
+        ensures same { (self.new.rule ≡ self.old.rule) × (self.new.lineup.state.capacity ≡ self.old.lineup.state.capacity) }
+        ensures handled { (b : Book) → Lies (L.Places.contents self.old.lineup.mirrored.list) self.old.lineup.state b → Sound (R.Ranking.ahead self.old.rule) b → Handled (R.Ranking.ahead self.old.rule) b request self.old.lineup.state (L.Places.contents self.old.lineup.mirrored.list) self.new.lineup.state (L.Places.contents self.new.lineup.mirrored.list) fills.old fills.new result }
+    {
+        match request {
+            Request::Enter(entry) => self.enter(&entry, fills),
+            Request::Withdraw(cancel) => self.withdraw(&cancel),
+            Request::Call => self.call(fills),
+            Request::Halt => self.halt(),
+        }
     }
 }

@@ -10,4 +10,3 @@ mod entry;
 mod gate;
 mod handle;
 pub mod serve;
-pub mod state;

@@ -1,31 +1,45 @@
 use Rattle.std.proofs.Common.{◌≡◌, refl, ◌∙◌, arith}
+use Rattle.std.proofs.lemmas.List.{length-take-le, set-get_or}
 use Rattle.ranked.proofs.Called.{calling_none, calling_more, calling_used, calling_on, crossed_so, none_left}
 use Rattle.ranked.proofs.cross.crossed.Goals as goal
-use Rattle.ranked.proofs.cross.crossed.Goals.{else-loop-count-test, then-loop-count-test+then-left-eq0, then-loop-count-test+else-left-eq0+in-None}
 
 pub loop-count-init : goal.loop-count-init
-loop-count-init g c = (omega arith, refl, λ rule b l sound bought sold. calling_none _ b rule sound _ _ _ _ l bought sold)
+loop-count-init g c = (refl, λ rule b l sound bought sold. calling_none _ b rule sound _ _ _ _ l bought sold)
 
 pub loop-count-preserved : goal.loop-count-preserved
-loop-count-preserved g c =
-    let few = c.in-Some.ensures.few in (
-      omega arith,
-      few.0 ∙ c.loop-count.invariant.1,
-      λ rule b l sound bought sold.
-          let calling = c.loop-count.invariant.2 rule b l sound bought sold in
-          calling_more _ b _ _ _ _ _ _ _ calling _ _ (omega arith) (omega arith) (c.in-Some.ensures.taken _ calling.lies),
-    )
+loop-count-preserved g c = (
+  c.in-Some.ensures.few.0 ∙ c.loop-count.invariant.0,
+  λ rule b l sound bought sold.
+      let calling = c.loop-count.invariant.1 rule b l sound bought sold in
+      calling_more _ b _ _ _ _ _ _ _ calling _ _ _ (omega arith) c.loop-count-test.true (c.in-Some.ensures.taken _ calling.lies),
+)
+
+pub returns-then-left-eq0 : goal.returns-then-left-eq0
+returns-then-left-eq0 g c = record {
+  capacity = c.loop-count.invariant.0;
+  dealt = λ rule b l sound bought sold few.
+      let calling = c.loop-count.invariant.1 rule b l sound bought sold in
+      let used = calling_used _ b _ _ _ _ _ _ _ calling c.if-left-eq0.true in
+      let same : c.narrowed.result ≡ c.loop-count.count = omega (arith, c.narrowed.ensures, l.small, few, used.1) in
+      rw (set-get_or, same) (crossed_so few c.requires used);
+}
+
+pub returns-in_default : goal.returns-in_default
+returns-in_default g c = record {
+  capacity = c.in_default.ensures.few.0 ∙ c.loop-count.invariant.0;
+  dealt = λ rule b l sound bought sold few.
+      let calling = c.loop-count.invariant.1 rule b l sound bought sold in
+      absurd (omega (arith, (calling_on _ b _ _ _ _ _ _ _ calling (omega (arith, c.if-left-eq0.false))).0, c.in_default.ensures.taken _ calling.lies));
+}
 
 pub returns : goal.returns
 returns g c = record {
-  capacity = c.loop-count.invariant.1;
+  capacity = c.loop-count.invariant.0;
   dealt = λ rule b l sound bought sold few.
-      let calling = c.loop-count.invariant.2 rule b l sound bought sold in
-      let same : c.narrowed.result ≡ c.loop-count.count = omega (arith, c.narrowed.ensures, l.small) in
+      let calling = c.loop-count.invariant.1 rule b l sound bought sold in
+      let long = length-take-le c.args.lineup.now.state.capacity c.args.fills.now c.requires in
       let on = calling_on _ b _ _ _ _ _ _ _ calling in
-      elim c.loop-count-test.branch [
-        | else-loop-count-test w ↦ rw (w.list-is, same) (crossed_so (calling_used _ b _ _ _ _ _ _ _ calling (none_left _ (λ some. omega (arith, (on some).1, few, w.loop-count-test.false)))))
-        | then-loop-count-test+then-left-eq0 w ↦ rw (w.list-is, same) (crossed_so (calling_used _ b _ _ _ _ _ _ _ calling w.if-left-eq0.true))
-        | then-loop-count-test+else-left-eq0+in-None w ↦ absurd (omega (arith, (on (omega (arith, w.if-left-eq0.false))).0, w.in-None.ensures.taken _ calling.lies))
-      ];
+      let used = calling_used _ b _ _ _ _ _ _ _ calling (none_left _ (λ some. omega (arith, (on some).1, few, c.loop-count-test.false, long))) in
+      let same : c.narrowed-2.result ≡ c.loop-count.count = omega (arith, c.narrowed-2.ensures, l.small, few, used.1, c.loop-count-test.false, c.loop-count.auto.count-end, long) in
+      rw same (crossed_so few c.requires used);
 }

@@ -1,4 +1,4 @@
-use Rattle.std.proofs.Common.{◌≡◌, ◌-◌, ◌≤◌}
+use Rattle.std.proofs.Common.{◌≡◌, ◌≤◌}
 use Rattle.plain.specs.Rule.{Rule}
 use Rattle.plain.specs.Orders.{total}
 use Rattle.plain.specs.Dealing.{dealt}
@@ -10,10 +10,6 @@ use Rattle.ranked.proofs.cross.crossed.Given as goal
 
 abbrev pub invariant-loop-count : goal.invariant-loop-count
 invariant-loop-count g l =
-    (l.count ≤ l.capacity) ×
-    (l.state.capacity ≡ l.initial.state.capacity) ×
-    ((rule : Rule) (b : Book) → Lies (g.L.Places.contents l.initial.list) l.initial.state b → Sound rule b → l.n ≤ total b.buys → l.n ≤ total b.sells →
-    Calling l.price b (dealt (λ _ _. l.price) l.n b.buys b.sells) (g.L.Places.contents l.list) l.state l.left l.count l.initial.fills l.fills)
-
-abbrev pub decreases-loop-count : goal.decreases-loop-count
-decreases-loop-count g l = l.capacity - l.count
+    (l.lineup.state.capacity ≡ l.initial.lineup.state.capacity) ×
+    ((rule : Rule) (b : Book) → Lies (g.L.Places.contents l.initial.lineup.mirrored.list) l.initial.lineup.state b → Sound rule b → l.n ≤ total b.buys → l.n ≤ total b.sells →
+    Calling l.price b (dealt (λ _ _. l.price) l.n b.buys b.sells) (g.L.Places.contents l.lineup.mirrored.list) l.lineup.state l.left l.count l.initial.place-items l.place-items)

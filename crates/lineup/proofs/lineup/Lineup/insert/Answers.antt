@@ -1,0 +1,5 @@
+use Rattle.std.proofs.Common.{refl}
+use Rattle.lineup.proofs.lineup.Lineup.insert.Goals as goal
+
+pub returns-in-Buy : goal.returns-in-Buy
+returns-in-Buy g c = record { wrote = rw c.in-Buy.is c.insert-in-Buy.ensures; kept = refl }
