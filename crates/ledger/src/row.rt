@@ -1,3 +1,8 @@
+ghost use Rattle.std.specs.Prelude.{◌≡◌};
+ghost use Rattle.ledger.specs.Rows.{added};
+
+use std::ops::Add;
+
 // The number of members.
 pub const MEMBERS: usize = 64;
 
@@ -17,4 +22,20 @@ impl Row {
         pay: 0,
         receive: 0,
     };
+}
+
+// Two rows added up; a total past the largest number stays there.
+impl Add for Row {
+    type Output = Row;
+
+    ghost add_gives = { λ a b sum. sum ≡ added a b };
+
+    fn add(self, other: Row) -> Row {
+        Row {
+            bought: self.bought.saturating_add(other.bought),
+            sold: self.sold.saturating_add(other.sold),
+            pay: self.pay.saturating_add(other.pay),
+            receive: self.receive.saturating_add(other.receive),
+        }
+    }
 }

@@ -29,10 +29,10 @@ impl Ledger {
     pub fn row(&self, member: u8) -> Row
         ensures { result ≡ row_of self.now.rows member }
     {
-        match self.rows.get(member as usize) {
-            Some(row) => *row,
-            None => Row::ZERO,
-        }
+        self.rows
+            .get(member as usize)
+            .copied()
+            .unwrap_or(Row::ZERO)
     }
 
     // The totals of all members together.
@@ -40,12 +40,8 @@ impl Ledger {
         ensures { SumOfRows 64 self.now.rows result }
     {
         let mut sum = Row::ZERO;
-        for member in 0..MEMBERS as u8 {
-            let row = self.row(member);
-            sum.bought += row.bought;
-            sum.sold += row.sold;
-            sum.pay += row.pay;
-            sum.receive += row.receive;
+        for row in &self.rows {
+            sum = sum + *row;
         }
         sum
     }
