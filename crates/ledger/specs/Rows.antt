@@ -1,5 +1,5 @@
 -- The totals of members, and what fills add to them. Assumes nothing.
-use Rattle.std.specs.Prelude.{◌≡◌, ℕ, zero, suc, ◌+◌, ◌-◌, ◌*◌, ◌^◌, min, Bool, true, cond, ◌&&◌, List, [], ◌∷◌, ◌==◌, nat_le, nat_lt, slice_index_or, slice_set}
+use Rattle.std.specs.Prelude.{◌≡◌, ℕ, zero, suc, ◌+◌, ◌-◌, ◌*◌, ◌^◌, min, Bool, cond, ◌&&◌, List, [], ◌∷◌, ◌==◌, nat_le, nat_lt, slice_index_or, slice_set}
 use Rattle.std.specs.List.{list_all}
 use Rattle.orders.specs.declared.request.Side.{Side}
 use Rattle.orders.specs.declared.request.Side.TheVariants.{Buy, Sell}
