@@ -3,7 +3,8 @@
 
 use anyhow::anyhow;
 use input::read_file;
-use listing::day::{Book, day_lines};
+use listing::day::day_lines;
+use piles::kind::{Kind, OnRanked, OnShelf};
 use ranking::rank::Priority;
 use ranking::rules::{Size, Time};
 
@@ -17,20 +18,20 @@ fn run(rt: &HostRuntime) -> anyhow::Result<()> {
         return Ok(());
     };
     let file = file.as_slice();
-    print_book(rt, "shelf time", file, Book::Shelf, Time)?;
-    print_book(rt, "ranked time", file, Book::Ranked, Time)?;
-    print_book(rt, "shelf size", file, Book::Shelf, Size)?;
-    print_book(rt, "ranked size", file, Book::Ranked, Size)
+    print_book(rt, "shelf time", file, &OnShelf, Time)?;
+    print_book(rt, "ranked time", file, &OnRanked, Time)?;
+    print_book(rt, "shelf size", file, &OnShelf, Size)?;
+    print_book(rt, "ranked size", file, &OnRanked, Size)
 }
 
-fn print_book<R: Priority + Drop>(
+fn print_book<K: Kind, R: Priority + Drop>(
     rt: &HostRuntime,
     name: &str,
     file: &[u8],
-    book: Book,
+    kind: &K,
     rule: R,
 ) -> anyhow::Result<()> {
-    let Ok(lines) = day_lines(rt.alloc(), file, book, rule) else {
+    let Ok(lines) = day_lines(rt.alloc(), file, kind, rule) else {
         return Err(anyhow!("out of memory"));
     };
     rt.println(name)?;

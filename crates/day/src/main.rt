@@ -3,7 +3,8 @@
 
 use anyhow::anyhow;
 use input::read_file;
-use listing::day::{Book, day_lines};
+use listing::day::day_lines;
+use piles::kind::OnRanked;
 use ranking::rules::Time;
 
 fn main(rt: HostRuntime) -> anyhow::Result<()> {
@@ -15,7 +16,7 @@ fn run(rt: &HostRuntime) -> anyhow::Result<()> {
         rt.println("too long")?;
         return Ok(());
     };
-    let Ok(lines) = day_lines(rt.alloc(), file.as_slice(), Book::Ranked, Time) else {
+    let Ok(lines) = day_lines(rt.alloc(), file.as_slice(), &OnRanked, Time) else {
         return Err(anyhow!("out of memory"));
     };
     rt.println("grain 1")?;

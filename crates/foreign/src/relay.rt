@@ -37,10 +37,7 @@ impl<V: Venue> Venue for Relay<V> {
     ghost stands = { λ s. RelayStands (V.Venue.stands s.below) s.height (V.Venue.setup s.below).height };
 
     fn serve(&mut self, request: Request, fills: &mut [Fill]) -> Result<Answer, Refusal> {
-        match self.below.serve(request, fills) {
-            Ok(answer) => Ok(answer),
-            Err(refusal) => Err(refusal),
-        }
+        self.below.serve(request, fills)
     }
 
     fn keeps(&self) {

@@ -12,6 +12,7 @@ use orders::request::{Request, Side};
 use venue::venue::Venue;
 
 // Buys that would bring a member above his cap are refused.
+// Two arrays by member and not one of pairs, since a set-up starts what is held anew and leaves the caps as they were given.
 #[derive(Drop)]
 pub struct Caps {
     caps: [u32; 64],
@@ -38,37 +39,50 @@ impl Caps {
         }
     }
 
-    // Takes tonnes off what a member holds.
-    fn take_off(&mut self, member: u8, tonnes: u32)
-        requires { member ≤ 63 }
+    // Takes tonnes off what their member holds.
+    fn take_off(&mut self, tonnage: Tonnage)
         ensures caps { self.new.caps ≡ self.old.caps }
-        ensures held { (m : ℕ) → slice_index self.new.held m ≡ slice_index self.old.held m - share m member tonnes }
+        ensures held { (m : ℕ) → slice_index self.new.held m ≡ slice_index self.old.held m - share m tonnage.member tonnage.tonnes }
     {
-        self.held[member as usize] = self.held[member as usize].saturating_sub(tonnes);
+        let member = usize::from(tonnage.member);
+        self.held[member] = self.held[member].saturating_sub(tonnage.tonnes);
     }
 }
 
-// Tonnes that a member has reserved, to be admitted or put back.
-pub struct Reservation {
+// Tonnes of a member.
+#[derive(Clone, Copy)]
+struct Tonnage {
     member: u8,
     tonnes: u32,
     ghost member_high: { member ≤ 63 },
 }
 
-// What the answer withdraws from the buys of a member, and whose they are.
-fn withdrawn(request: &Request, answer: &Answer) -> (u8, u32)
-    ensures { (result.0 ≤ 63) × (((m : ℕ) → share m result.0 result.1 ≡ unbought m request.now answer.now)) }
+impl Tonnage {
+    const NONE: Tonnage = Tonnage {
+        member: 0,
+        tonnes: 0,
+    };
+}
+
+// Tonnes that a member has reserved, to be admitted or put back.
+pub struct Reservation {
+    tonnage: Tonnage,
+}
+
+// What the answer withdraws from the buys of a member.
+fn withdrawn(request: &Request, answer: &Answer) -> Tonnage
+    ensures { (m : ℕ) → share m result.member result.tonnes ≡ unbought m request.now answer.now }
 {
     match (request, answer) {
-        (Request::Enter(entry), Answer::Entered(entered)) if entry.side() == Side::Buy => (
-            entry.member(),
-            entered.withdrawn,
-        ),
-        (Request::Withdraw(cancel), Answer::Withdrawn(order)) if order.side == Side::Buy => (
-            cancel.member(),
-            order.tonnes,
-        ),
-        _ => (0, 0),
+        (Request::Enter(entry), Answer::Entered(entered)) if entry.side() == Side::Buy => Tonnage {
+            member: entry.member(),
+            tonnes: entered.withdrawn,
+        },
+        (Request::Withdraw(cancel), Answer::Withdrawn(order)) if order.side == Side::Buy => Tonnage {
+            member: cancel.member(),
+            tonnes: order.tonnes,
+        },
+        _ => Tonnage::NONE,
     }
 }
 
@@ -81,7 +95,7 @@ impl Part for Caps {
 
     ghost follows = { λ s rule t. HasHeld s.held rule t × WithinCaps s.held s.caps };
 
-    ghost holds = { λ s h rule t q. HasReserved s.held h.member h.tonnes rule t × ((m : ℕ) → share m h.member h.tonnes ≡ to_buy m q) × WithinCaps s.held s.caps };
+    ghost holds = { λ s h rule t q. HasReserved s.held h.tonnage.member h.tonnage.tonnes rule t × ((m : ℕ) → share m h.tonnage.member h.tonnage.tonnes ≡ to_buy m q) × WithinCaps s.held s.caps };
 
     fn begin(&mut self) -> Result<(), Cause> {
         self.held = [0; 64];
@@ -92,32 +106,29 @@ impl Part for Caps {
         let entry = match request {
             Request::Enter(entry) if entry.side() == Side::Buy => entry,
             _ => return Ok(Reservation {
-                member: 0,
-                tonnes: 0,
+                tonnage: Tonnage::NONE,
             }),
         };
-        let member = entry.member();
-        let tonnes = entry.quantity();
-        let held = self.held[member as usize];
-        if held as u64 + tonnes as u64 > self.caps[member as usize] as u64 {
-            return Err(Cause::OverCap);
+        let tonnage = Tonnage {
+            member: entry.member(),
+            tonnes: entry.quantity(),
+        };
+        let member = usize::from(tonnage.member);
+        match self.held[member].checked_add(tonnage.tonnes) {
+            Some(held) if held <= self.caps[member] => self.held[member] = held,
+            _ => return Err(Cause::OverCap),
         }
-        self.held[member as usize] = held + tonnes;
-        Ok(Reservation { member, tonnes })
+        Ok(Reservation { tonnage })
     }
 
     fn admit(&mut self, hold: Reservation, request: &Request, answer: &Answer) {
-        let Reservation {
-            member: _,
-            tonnes: _,
-        } = hold;
-        let (member, tonnes) = withdrawn(request, answer);
-        self.take_off(member, tonnes);
+        let Reservation { tonnage: _ } = hold;
+        self.take_off(withdrawn(request, answer));
     }
 
     fn put_back(&mut self, hold: Reservation) {
-        let Reservation { member, tonnes } = hold;
-        self.take_off(member, tonnes);
+        let Reservation { tonnage } = hold;
+        self.take_off(tonnage);
     }
 }
 

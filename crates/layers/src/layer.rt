@@ -66,13 +66,11 @@ impl<P: Part, V: Venue> Venue for Layer<P, V> {
     ghost stands = { λ s. LayerStands (P.Part.follows s.part (V.Venue.setup s.below).rule) (V.Venue.stands s.below) s.height (V.Venue.setup s.below).height };
 
     fn serve(&mut self, request: Request, fills: &mut [Fill]) -> Result<Answer, Refusal> {
-        let hold = match self.part.reserve(&request, fills.len()) {
-            Ok(hold) => hold,
-            Err(cause) => return Err(Refusal {
-                cause,
-                height: Some(self.height),
-            }),
-        };
+        let height = self.height;
+        let hold = self
+            .part
+            .reserve(&request, fills.len())
+            .map_err(|cause| cause.at(height))?;
         match self.below.serve(request, fills) {
             Ok(answer) => {
                 self.part.admit(hold, &request, &answer);
@@ -133,6 +131,14 @@ impl<P, V> Layer<P, V> {
 pub struct Refused<V> {
     pub cause: Cause,
     pub below: V,
+}
+
+impl<V: Drop> From<Refused<V>> for Cause {
+    ghost from_gives = { λ u c. c ≡ u.cause };
+
+    fn from(refused: Refused<V>) -> Cause {
+        refused.cause
+    }
 }
 
 // Lays a part over a fresh venue of a height below 15, or hands the venue back.

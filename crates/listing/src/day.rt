@@ -5,7 +5,7 @@ ghost use Rattle.listing.specs.Day.{DayListing};
 use crate::line::Line;
 use crate::lines::listing;
 use crate::records::{read_records, steps_for};
-use piles::day::{run_ranked, run_shelf};
+use piles::kind::Kind;
 use ranking::places::Lent;
 use ranking::rank::Priority;
 use std::alloc::{AllocError, Global};
@@ -14,36 +14,26 @@ use venue::step::Step;
 // The places of the day's book, and of the fill list of each request.
 pub const PLACES: usize = 8;
 
-// A kind of book.
-#[derive(Clone, Copy)]
-pub enum Book {
-    Shelf,
-    Ranked,
-}
-
 // Runs steps through the day's pile over a fresh book.
-fn deal<R: Priority + Drop>(book: Book, rule: R, steps: &mut [Step])
+fn deal<K: Kind, R: Priority + Drop>(kind: &K, rule: R, steps: &mut [Step])
     ensures { DayRun (day_setup (R.Ranking.ahead rule) 8) steps.old steps.new }
 {
     let mut places = [None; PLACES];
     let list = Lent::over(&mut places);
-    match book {
-        Book::Shelf => run_shelf(list, rule, steps).unwrap(),
-        Book::Ranked => run_ranked(list, rule, steps).unwrap(),
-    }
+    kind.run(list, rule, steps).unwrap();
 }
 
 // The lines of a file that is dealt on the day's pile.
-pub fn day_lines<R: Priority + Drop>(
+pub fn day_lines<K: Kind, R: Priority + Drop>(
     heap: Global,
     file: &[u8],
-    book: Book,
+    kind: &K,
     rule: R,
 ) -> Result<Vec<Line>, AllocError>
     ensures { IfOk result (λ v. DayListing (R.Ranking.ahead rule) file.now v.items) }
 {
     let records = read_records(heap, file)?;
     let mut steps = steps_for(heap, records.as_slice(), PLACES)?;
-    deal(book, rule, steps.as_mut_slice());
+    deal(kind, rule, steps.as_mut_slice());
     listing(heap, records.as_slice(), steps.as_slice())
 }

@@ -6,10 +6,9 @@ use layers::collar::Collar;
 use layers::layer::{Layer, binds_as_below, stack};
 use orders::order::Order;
 use orders::refusal::Cause;
-use ranked::book::open;
 use ranking::places::Places;
 use ranking::rank::Priority;
-use shelf::shelf::Shelf;
+use venue::book::Book;
 use venue::run::run;
 use venue::step::Step;
 use venue::venue::Venue;
@@ -22,15 +21,9 @@ pub fn pile_over<V: Venue + Drop>(book: V) -> Result<Pile<V>, Cause>
     ensures book { (V.Venue.setup book).height ≡ 0 → V.Venue.stands book [] → MatchResult result (λ p. PiledOver V.Venue.setup V.Venue.stands book p) (λ _. ⊥) }
     ensures venue { MatchResult result (λ p. PiledOverVenue V.Venue.setup V.Venue.stands book p) (λ c. NotPiled V.Venue.setup V.Venue.stands book c) }
 {
-    let capped = match stack(Caps::usual(), book) {
-        Ok(layer) => layer,
-        Err(refused) => return Err(refused.cause),
-    };
+    let capped = stack(Caps::usual(), book)?;
     binds_its_caps(&capped);
-    let pile = match stack(Collar::new(100, 300), capped) {
-        Ok(layer) => layer,
-        Err(refused) => return Err(refused.cause),
-    };
+    let pile = stack(Collar::new(100, 300), capped)?;
     binds_as_below(&pile);
     Ok(pile)
 }
@@ -44,30 +37,13 @@ fn run_over<V: Venue + Drop>(book: V, steps: &mut [Step]) -> Result<(), Cause>
     Ok(())
 }
 
-// Runs steps through the day's pile over a ranked book.
-pub fn run_ranked<L: Places<Record = Order> + Drop, R: Priority + Drop>(
+// Runs steps through the day's pile over a fresh book of whatever kind.
+pub fn run_day<L: Places<Record = Order> + Drop, R: Priority + Drop, B: Book<L, R> + Drop>(
     list: L,
     rule: R,
     steps: &mut [Step],
 ) -> Result<(), Cause>
     ensures { MatchResult result (λ _. DayRun (day_setup (R.Ranking.ahead rule) (length (L.Places.contents list))) steps.old steps.new) (λ c. NotRun (length (L.Places.contents list)) c steps.old steps.new) }
 {
-    match open(list, rule) {
-        Ok(book) => run_over(book, steps),
-        Err(refused) => Err(refused.cause),
-    }
-}
-
-// The same over a shelf book.
-pub fn run_shelf<L: Places<Record = Order> + Drop, R: Priority + Drop>(
-    list: L,
-    rule: R,
-    steps: &mut [Step],
-) -> Result<(), Cause>
-    ensures { MatchResult result (λ _. DayRun (day_setup (R.Ranking.ahead rule) (length (L.Places.contents list))) steps.old steps.new) (λ c. NotRun (length (L.Places.contents list)) c steps.old steps.new) }
-{
-    match Shelf::over(list, rule) {
-        Ok(book) => run_over(book, steps),
-        Err(refused) => Err(refused.cause),
-    }
+    run_over(B::open(list, rule)?, steps)
 }

@@ -2,3 +2,4 @@
 #![tactic(auto)]
 
 pub mod day;
+pub mod kind;

@@ -1,6 +1,7 @@
 // A book that keeps each side in the sequence of its rule, over a list of places.
 #![tactic(auto)]
 
+mod as_book;
 pub mod book;
 mod call;
 mod cross;

@@ -42,8 +42,7 @@ fn show_record(rt: &impl Print, line: usize, located: &Located) -> io::Result<()
 
 fn show_refusal(rt: &impl Print, line: usize, offset: usize, cause: Cause) -> io::Result<()> {
     println!(rt;
-        "{line} at {offset} refused {} {}",
-        cause.number(),
-        cause.name()
+        "{line} at {offset} refused {} {cause}",
+        cause.number()
     )
 }

@@ -1,4 +1,4 @@
-use orders::request::{Life, Request, Side};
+use orders::request::Request;
 use std::fmt;
 
 // A request in words.
@@ -12,8 +12,8 @@ impl fmt::Display for Words {
         match self.request {
             Request::Enter(e) => {
                 let member = e.member();
-                let side = side_word(e.side());
-                let life = life_word(e.life());
+                let side = e.side();
+                let life = e.life();
                 let price = e.price();
                 let quantity = e.quantity();
                 let minimum = e.minimum();
@@ -30,19 +30,5 @@ impl fmt::Display for Words {
             Request::Call => write!(f, "call"),
             Request::Halt => write!(f, "halt"),
         }
-    }
-}
-
-fn side_word(side: Side) -> &'static str {
-    match side {
-        Side::Buy => "buy",
-        Side::Sell => "sell",
-    }
-}
-
-fn life_word(life: Life) -> &'static str {
-    match life {
-        Life::Rest => "rest",
-        Life::Kill => "kill",
     }
 }

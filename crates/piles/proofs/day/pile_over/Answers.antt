@@ -10,10 +10,10 @@ pub returns : goal.returns
 returns g c =
     let setup = g.V.Venue.setup in
     let stands = g.V.Venue.stands in
-    let l = c.in-Ok.layer in
-    let p = c.in-Ok-stack.layer in
-    let caps = c.in-Ok.ensures in
-    let collar = c.in-Ok-stack.ensures in
+    let l = c.in_ok-capped.capped in
+    let p = c.in_ok-pile.pile in
+    let caps = c.in_ok-capped.ensures in
+    let collar = c.in_ok-pile.ensures in
     let table : cap_rule l.part.caps ≡ cap_rule (replicate 64 1000) = caps.laid.0 ∙ ap cap_rule c.usual.ensures.caps in
     let limits : collar_rule p.part.low p.part.high ≡ collar_rule 100 300 = collar.laid.0 ∙ (λ i. collar_rule (c.new.ensures.0 i) (c.new.ensures.1 i)) in
     let one : l.height ≡ (setup c.args.book).height + 1 = caps.laid.1 in
