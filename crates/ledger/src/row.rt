@@ -1,6 +1,7 @@
 ghost use Rattle.std.specs.Prelude.{◌≡◌};
 ghost use Rattle.ledger.specs.Rows.{added};
 
+use std::fmt;
 use std::ops::Add;
 
 // The number of members.
@@ -37,5 +38,15 @@ impl Add for Row {
             pay: self.pay.saturating_add(other.pay),
             receive: self.receive.saturating_add(other.receive),
         }
+    }
+}
+
+impl fmt::Display for Row {
+    fn fmt<W: fmt::Write>(&self, f: &mut fmt::Formatter<W>) -> fmt::Result {
+        write!(
+            f,
+            "bought {} sold {} pays {} receives {}",
+            self.bought, self.sold, self.pay, self.receive
+        )
     }
 }
