@@ -7,6 +7,7 @@ use orders::order::{Fill, Order};
 use orders::request::Side;
 
 // How fills are priced: at the resting order's price, where an order of the side came in, or all at one.
+// An enum and no closure, since clauses name the price by it; of a closure each would have to ask what it answers.
 #[derive(Clone, Copy)]
 pub(crate) enum Terms {
     Resting(Side),
