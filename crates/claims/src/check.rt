@@ -2,7 +2,6 @@ ghost use Rattle.std.specs.Prelude.{◌≡◌, IfOk, Decides};
 ghost use Rattle.plain.specs.Book.{Tape};
 ghost use Rattle.plain.specs.Matched.{EntryMatches};
 ghost use Rattle.venue.specs.Meaning.{book_at};
-ghost use Rattle.plain.specs.Orders.{other};
 ghost use Rattle.claims.specs.Judged.{CallHolds, JudgedAt};
 
 use crate::claim::{Claim, Subject};
@@ -45,24 +44,16 @@ const NO_ORDER: Order = Order {
     remaining: 0,
 };
 
-// The most orders that rest in any venue.
+// The most orders that rest in any venue. A check asks for no memory, so each side is copied to an array of so many places,
+// and the orders in it are counted beside it.
 const MOST: usize = 1024;
-
-fn other_side(side: Side) -> Side
-    ensures { result ≡ other side }
-{
-    match side {
-        Side::Buy => Side::Sell,
-        Side::Sell => Side::Buy,
-    }
-}
 
 fn entry_holds<V: Venue>(venue: &V, entry: &Entry, number: u32, fills: &[Fill]) -> bool
     ensures { (t : Tape) → V.stands venue.now t → (book_at (V.setup venue.now) t).next ≡ number → Decides result (EntryMatches (V.setup venue.now).rule (book_at (V.setup venue.now) t) entry.now fills.now) }
 {
     venue.keeps();
     let mut resting = [NO_ORDER; MOST];
-    let count = copy_ranks(venue, other_side(entry.side()), &mut resting);
+    let count = copy_ranks(venue, entry.side().opposite(), &mut resting);
     entry_agrees(entry, number, &mut resting[..count], fills)
 }
 
@@ -86,9 +77,8 @@ fn call_holds<V: Venue>(venue: &V, price: u32, volume: u32, fills: &[Fill]) -> b
 fn check_entry<V: Venue>(venue: &V, entry: &Entry, fills: &[Fill]) -> Result<(), Cause>
     ensures { (t : Tape) → V.stands venue.now t → JudgedAt (V.setup venue.now) t (Subject.Entry entry.now) fills.now result }
 {
-    match venue.phase() {
-        Phase::Gathering => return Err(Cause::WrongPhase),
-        Phase::Dealing => {}
+    if venue.phase() == Phase::Gathering {
+        return Err(Cause::WrongPhase);
     }
     let Some(number) = venue.next_number() else {
         return Err(Cause::NumbersSpent);
@@ -103,9 +93,8 @@ fn check_entry<V: Venue>(venue: &V, entry: &Entry, fills: &[Fill]) -> Result<(),
 fn check_call<V: Venue>(venue: &V, price: u32, volume: u32, fills: &[Fill]) -> Result<(), Cause>
     ensures { (t : Tape) → V.stands venue.now t → JudgedAt (V.setup venue.now) t (Subject.Call price volume) fills.now result }
 {
-    match venue.phase() {
-        Phase::Gathering => {}
-        Phase::Dealing => return Err(Cause::WrongPhase),
+    if venue.phase() == Phase::Dealing {
+        return Err(Cause::WrongPhase);
     }
     if call_holds(venue, price, volume, fills) {
         Ok(())

@@ -11,10 +11,10 @@ pub(crate) fn copy_ranks<V: Venue>(venue: &V, side: Side, list: &mut [Order]) ->
     ensures copied { (t : Tape) → V.stands venue.now t → take result list.new ≡ take (length list.old) (side_at (V.setup venue.now) t side) }
     ensures few { result ≤ length list.old }
 {
-    for i in 0..list.len() {
+    for (i, place) in list.iter_mut().enumerate() {
         match venue.order_at(side, i + 1) {
             None => return i,
-            Some(o) => list[i] = o,
+            Some(o) => *place = o,
         }
     }
     list.len()

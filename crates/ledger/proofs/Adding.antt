@@ -1,14 +1,14 @@
 -- What fills add to each total, and whether all stay within the limit. Assumes nothing.
 use Rattle.std.proofs.Common.{◌≡◌, ℕ, zero, suc, ◌+◌, ◌<◌, ◌≤◌, Bool, true, false, cond, ◌&&◌, eqb, ltb, ◌≢◌, List, [], ◌∷◌, length, get_or, drop, Ok, sym, refl, ap, ◌∙◌, subst, add_assoc, arith, length-set}
 use Rattle.std.proofs.lemmas.List.{get_or-set_same, get_or-set_other, drop_more, drop_all}
-use Rattle.std.proofs.lemmas.Bool.{cond_both, true≢false, and_parts, and_from, and_left, ltb-true}
+use Rattle.std.proofs.lemmas.Bool.{cond_both, true≢false, and_parts, and_from, ltb-true}
 use Rattle.std.proofs.lemmas.Bool.Decides.{nat_tests}
 use Rattle.orders.specs.declared.request.Side.{Side}
 use Rattle.orders.specs.declared.request.Side.TheVariants.{Buy, Sell}
 use Rattle.orders.specs.declared.order.Fill.{Fill}
 use Rattle.ranking.specs.Sequence.{sum_of}
 use Rattle.ledger.specs.declared.row.Row.{Row}
-use Rattle.ledger.specs.Rows.{UnitOf, total, nothing, row_of, party, amount, known, adds, capped, raised, raised_of, after_fill, after_fills, limit, row_within, all_within}
+use Rattle.ledger.specs.Rows.{UnitOf, total, row_of, party, amount, known, adds, capped, raised, raised_of, after_fill, after_fills, limit, row_within, all_within}
 use Rattle.ledger.specs.Rows.UnitOf.{tonnes, pence}
 use Rattle.ledger.specs.Booking.{due, Fits, Booked}
 
@@ -112,17 +112,7 @@ within_all (r ∷ rs) h =
     let one : row_within r ≡ true = grind (arith, nat_tests) in
     and_from (row_within r) (all_within rs) one (within_all rs (λ s u m k. h s u (suc m) (omega arith)))
 
--- one more row tested, and one more fill added
-module _ (rows : List Row) (i : ℕ) (answer : Bool) (inv : all_within (drop i rows) ≡ answer) where
-  pub within_stop : i < length rows → false ≡ row_within (row_of rows i) → false ≡ answer
-  within_stop h e = sym (and_left (row_within (row_of rows i)) (all_within (drop (i + 1) rows)) (sym e)) ∙ (sym (ap all_within (drop_more rows i nothing h)) ∙ inv)
-
-  pub within_more : i < length rows → true ≡ row_within (row_of rows i) → all_within (drop (i + 1) rows) ≡ answer
-  within_more h e = ap (λ b. b && all_within (drop (i + 1) rows)) e ∙ (sym (ap all_within (drop_more rows i nothing h)) ∙ inv)
-
-  pub within_end : length rows ≤ i → true ≡ answer
-  within_end h = sym (ap all_within (drop_all i rows h)) ∙ inv
-
+-- one more fill added
 module _ (fs : List Fill) (i : ℕ) (rows goal : List Row) (inv : after_fills (drop i fs) rows ≡ goal) where
   pub fills_more : (f : Fill) (after : List Row) → i < length fs → after ≡ after_fill (get_or fs i f) rows → after_fills (drop (i + 1) fs) after ≡ goal
   fills_more f after h e = ap (after_fills (drop (i + 1) fs)) e ∙ (sym (ap (λ gs. after_fills gs rows) (drop_more fs i f h)) ∙ inv)

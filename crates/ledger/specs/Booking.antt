@@ -1,5 +1,5 @@
 -- What booking fills comes to, and when it is refused. Assumes nothing.
-use Rattle.std.specs.Prelude.{◌≡◌, ℕ, ◌+◌, ◌<◌, ◌≤◌, List, Ok, Err, vec_items, Result}
+use Rattle.std.specs.Prelude.{◌≡◌, ℕ, ◌+◌, ◌<◌, ◌≤◌, true, List, Ok, Err, vec_items, Result}
 use Rattle.orders.specs.declared.request.Side.{Side}
 use Rattle.orders.specs.declared.order.Fill.{Fill}
 use Rattle.orders.specs.declared.refusal.Cause.{Cause}
@@ -7,7 +7,7 @@ use Rattle.orders.specs.declared.refusal.Cause.TheVariants.{LedgerFull}
 use Rattle.claims.specs.declared.check.Checked.{Checked}
 use Rattle.ranking.specs.Sequence.{sum_of}
 use Rattle.ledger.specs.declared.row.Row.{Row}
-use Rattle.ledger.specs.Rows.{UnitOf, total, row_of, adds, limit}
+use Rattle.ledger.specs.Rows.{UnitOf, total, row_of, adds, limit, all_within}
 
 -- the fills of a checked claim
 abbrev pub fills_of : Checked → List Fill
@@ -30,3 +30,8 @@ Answered rows fills (Err c) = (c ≡ LedgerFull) × (Fits rows fills → ⊥)
 abbrev pub Booked : List Row → List Fill → List Row → Result (Unit {0}) Cause → Type 0
 Booked rows fills after (Ok _) = (s : Side) (u : UnitOf) (m : ℕ) → m < 64 → total s u (row_of after m) ≡ due rows fills s u m
 Booked rows fills after (Err _) = after ≡ rows
+
+-- the rows that booking makes, all within the limit, or why it is refused
+abbrev pub AddedUp : List Row → List Fill → Result (List Row) Cause → Type 0
+AddedUp rows fills (Ok after) = Fits rows fills × Booked rows fills after (Ok tt) × (all_within after ≡ true)
+AddedUp rows fills (Err c) = (c ≡ LedgerFull) × (Fits rows fills → ⊥)

@@ -1,5 +1,6 @@
 -- The totals of members, and what fills add to them. Assumes nothing.
-use Rattle.std.specs.Prelude.{◌≡◌, ℕ, zero, suc, ◌+◌, ◌-◌, ◌*◌, ◌^◌, min, Bool, true, cond, ◌&&◌, List, [], ◌∷◌, ◌==◌, nat_le, nat_lt, slice_index_or, slice_set}
+use Rattle.std.specs.Prelude.{◌≡◌, ℕ, zero, suc, ◌+◌, ◌-◌, ◌*◌, ◌^◌, min, Bool, cond, ◌&&◌, List, [], ◌∷◌, ◌==◌, nat_le, nat_lt, slice_index_or, slice_set}
+use Rattle.std.specs.List.{list_all}
 use Rattle.orders.specs.declared.request.Side.{Side}
 use Rattle.orders.specs.declared.request.Side.TheVariants.{Buy, Sell}
 use Rattle.orders.specs.declared.order.Fill.{Fill}
@@ -46,6 +47,10 @@ adds s u m f = cond (known f && party s f == m) (amount u f) 0
 abbrev pub capped : ℕ → ℕ
 capped n = min n (2 ^ 64 - 1)
 
+-- two rows added up
+abbrev pub added : Row → Row → Row
+added a b = record { bought = capped (a.bought + b.bought); sold = capped (a.sold + b.sold); pay = capped (a.pay + b.pay); receive = capped (a.receive + b.receive) }
+
 -- a row with more on a side
 abbrev pub raised : Side → ℕ → ℕ → Row → Row
 raised Buy t p r = record { bought = capped (r.bought + t); sold = r.sold; pay = capped (r.pay + p); receive = r.receive }
@@ -71,8 +76,7 @@ abbrev pub row_within : Row → Bool
 row_within r = nat_le r.bought limit && (nat_le r.sold limit && (nat_le r.pay limit && nat_le r.receive limit))
 
 abbrev pub all_within : List Row → Bool
-all_within [] = true
-all_within (r ∷ rs) = row_within r && all_within rs
+all_within = list_all row_within
 
 -- a sum over the members below a number
 unfoldable pub over_members : ℕ → (ℕ → ℕ) → ℕ

@@ -1,3 +1,9 @@
+ghost use Rattle.std.specs.Prelude.{◌≡◌};
+ghost use Rattle.ledger.specs.Rows.{added};
+
+use std::fmt;
+use std::ops::Add;
+
 // The number of members.
 pub const MEMBERS: usize = 64;
 
@@ -17,4 +23,30 @@ impl Row {
         pay: 0,
         receive: 0,
     };
+}
+
+// Two rows added up; a total past the largest number stays there.
+impl Add for Row {
+    type Output = Row;
+
+    ghost add_gives = { λ a b sum. sum ≡ added a b };
+
+    fn add(self, other: Row) -> Row {
+        Row {
+            bought: self.bought.saturating_add(other.bought),
+            sold: self.sold.saturating_add(other.sold),
+            pay: self.pay.saturating_add(other.pay),
+            receive: self.receive.saturating_add(other.receive),
+        }
+    }
+}
+
+impl fmt::Display for Row {
+    fn fmt<W: fmt::Write>(&self, f: &mut fmt::Formatter<W>) -> fmt::Result {
+        write!(
+            f,
+            "bought {} sold {} pays {} receives {}",
+            self.bought, self.sold, self.pay, self.receive
+        )
+    }
 }

@@ -61,10 +61,5 @@ fn is_within(row: &Row) -> bool
 pub fn are_within(rows: &[Row]) -> bool
     ensures { result ≡ all_within rows.now }
 {
-    for row in rows {
-        if !is_within(row) {
-            return false;
-        }
-    }
-    true
+    rows.iter().all(is_within)
 }

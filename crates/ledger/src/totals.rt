@@ -1,6 +1,6 @@
 ghost use Rattle.std.specs.Prelude.{◌≡◌, true, replicate};
 ghost use Rattle.ledger.specs.Rows.{nothing, row_of, all_within, SumOfRows, Balanced};
-ghost use Rattle.ledger.specs.Booking.{fills_of, Answered, Booked};
+ghost use Rattle.ledger.specs.Booking.{fills_of, Answered, Booked, AddedUp};
 
 use crate::row::{MEMBERS, Row};
 use crate::sums::{add_fills, are_within};
@@ -29,10 +29,7 @@ impl Ledger {
     pub fn row(&self, member: u8) -> Row
         ensures { result ≡ row_of self.now.rows member }
     {
-        match self.rows.get(member as usize) {
-            Some(row) => *row,
-            None => Row::ZERO,
-        }
+        self.rows.get(member as usize).copied().unwrap_or(Row::ZERO)
     }
 
     // The totals of all members together.
@@ -40,12 +37,8 @@ impl Ledger {
         ensures { SumOfRows 64 self.now.rows result }
     {
         let mut sum = Row::ZERO;
-        for member in 0..MEMBERS as u8 {
-            let row = self.row(member);
-            sum.bought += row.bought;
-            sum.sold += row.sold;
-            sum.pay += row.pay;
-            sum.receive += row.receive;
+        for row in &self.rows {
+            sum = sum + *row;
         }
         sum
     }
@@ -54,18 +47,7 @@ impl Ledger {
     pub fn would_book(&self, claim: &Checked) -> Result<(), Cause>
         ensures { Answered self.now.rows (fills_of claim.now) result }
     {
-        self.test_fills(claim.fills())
-    }
-
-    // Whether fills could be added with no total past the limit.
-    fn test_fills(&self, fills: &[Fill]) -> Result<(), Cause>
-        ensures { Answered self.now.rows fills.now result }
-    {
-        if are_within(&add_fills(self.rows, fills)) {
-            Ok(())
-        } else {
-            Err(Cause::LedgerFull)
-        }
+        self.rows_after(claim.fills()).map(|_| ())
     }
 
     // Books a checked claim and uses it up: each fill is added to the totals of its buyer and its seller, unless some total would pass the limit.
@@ -74,20 +56,18 @@ impl Ledger {
         ensures booked { Booked self.old.rows (fills_of claim.entry) self.new.rows result }
         ensures balanced { Balanced self.new.rows }
     {
-        self.book_fills(claim.into_fills())
+        self.rows = self.rows_after(claim.into_fills())?;
+        Ok(())
     }
 
-    // Adds each fill to the totals of its buyer and its seller, unless some total would pass the limit.
-    fn book_fills(&mut self, fills: &[Fill]) -> Result<(), Cause>
-        ensures answered { Answered self.old.rows fills.now result }
-        ensures booked { Booked self.old.rows fills.now self.new.rows result }
-        ensures balanced { Balanced self.new.rows }
+    // The rows with each fill added to the totals of its buyer and its seller, unless some total would pass the limit.
+    fn rows_after(&self, fills: &[Fill]) -> Result<[Row; MEMBERS], Cause>
+        ensures { AddedUp self.now.rows fills.now result }
     {
         let rows = add_fills(self.rows, fills);
         if !are_within(&rows) {
             return Err(Cause::LedgerFull);
         }
-        self.rows = rows;
-        Ok(())
+        Ok(rows)
     }
 }

@@ -1,4 +1,5 @@
 ghost use Rattle.std.specs.Prelude.{◌≡◌, ◌++◌, map, length, take, drop, IfOk, OnOk, ◌==◌};
+ghost use Rattle.std.specs.Slice.Iter.{iter_rest};
 ghost use Rattle.venue.specs.Steps.{count as count_of, deal, admitted};
 ghost use Rattle.listing.specs.declared.line.Line.TheVariants.{Filled};
 ghost use Rattle.listing.specs.Lines.{answer_line, admitted_lines, sending_lines, step_lines, first_lines, steps_after, listing as lines_of};
@@ -9,6 +10,7 @@ use orders::order::Fill;
 use orders::refusal::{Cause, Refusal};
 use orders::request::Request;
 use std::alloc::{AllocError, Global};
+use std::slice;
 use venue::step::{Sending, Step};
 
 // The line of an answer.
@@ -23,24 +25,13 @@ fn answer_line(count: usize, answer: &Answer) -> Line
     }
 }
 
-// How many fills an answer says that it has.
-fn fill_count(answer: &Answer) -> usize
-    ensures { result ≡ count_of answer.now }
-{
-    match answer {
-        Answer::Entered(entered) => entered.fills as usize,
-        Answer::Withdrawn(_) => 0,
-        Answer::Called(called) => called.fills as usize,
-        Answer::Halted => 0,
-    }
-}
-
 // Adds a line for each of so many fills from the front of a list.
 fn push_fills(lines: &mut Vec<Line>, fills: &[Fill], count: usize) -> Result<(), AllocError>
     ensures { OnOk result (lines.new.items ≡ lines.old.items ++ map Filled (take count fills.now)) }
 {
-    for i in 0..count.min(fills.len()) {
-        lines.push(Line::Filled(fills[i]))?;
+    let counted = &fills[..count.min(fills.len())];
+    for fill in counted {
+        lines.push(Line::Filled(*fill))?;
     }
     Ok(())
 }
@@ -55,7 +46,7 @@ fn push_admitted(
     ensures { OnOk result (lines.new.items ≡ lines.old.items ++ admitted_lines count answer.now fills.now) }
 {
     lines.push(answer_line(count, answer))?;
-    push_fills(lines, fills, fill_count(answer))
+    push_fills(lines, fills, answer.fill_count())
 }
 
 // Adds the lines of a request.
@@ -84,6 +75,7 @@ fn push_step(lines: &mut Vec<Line>, count: usize, step: &Step) -> Result<(), All
 fn count_admitted(steps: &[Step]) -> usize
     ensures { result ≡ length (admitted steps.now) }
 {
+    // A loop, since what `filter` and `count` promise of steps was more than the proof could go through.
     let mut count = 0;
     for step in steps {
         if is_admitted(step) {
@@ -103,37 +95,31 @@ fn is_admitted(step: &Step) -> bool
     }
 }
 
-// Adds the lines of a record, and says how many steps are used after it.
+// Adds the lines of a record; a request takes the next of the steps that are left.
 fn push_record(
     lines: &mut Vec<Line>,
     count: usize,
     item: &Result<Request, Cause>,
-    steps: &[Step],
-    used: usize,
-) -> Result<usize, AllocError>
-    ensures lines { OnOk result (lines.new.items ≡ lines.old.items ++ first_lines count item.now (drop used steps.now)) }
-    ensures used { IfOk result (λ n. drop n steps.now ≡ steps_after item.now (drop used steps.now)) }
+    steps: &mut slice::Iter<Step>,
+) -> Result<(), AllocError>
+    ensures lines { OnOk result (lines.new.items ≡ lines.old.items ++ first_lines count item.now (iter_rest steps.old)) }
+    ensures used { OnOk result (iter_rest steps.new ≡ steps_after item.now (iter_rest steps.old)) }
 {
     match item {
         Err(cause) => {
-            lines.push(Line::Refused(
-                count,
-                Refusal {
-                    cause: *cause,
-                    height: None,
-                },
-            ))?;
-            Ok(used)
+            let refusal = Refusal {
+                cause: *cause,
+                height: None,
+            };
+            lines.push(Line::Refused(count, refusal))?;
         }
         Ok(_) => {
-            if used < steps.len() {
-                push_step(lines, count, &steps[used])?;
-                Ok(used + 1)
-            } else {
-                Ok(used)
+            if let Some(step) = steps.next() {
+                push_step(lines, count, step)?;
             }
         }
     }
+    Ok(())
 }
 
 // All lines of a listing after its first.
@@ -145,9 +131,9 @@ pub fn listing(
     ensures { IfOk result (λ v. v.items ≡ lines_of records.now steps.now) }
 {
     let mut lines = Vec::new(heap);
-    let mut used = 0;
+    let mut left = steps.iter();
     for (i, item) in records.iter().enumerate() {
-        used = push_record(&mut lines, i + 1, item, steps, used)?;
+        push_record(&mut lines, i + 1, item, &mut left)?;
     }
     lines.push(Line::End(count_admitted(steps)))?;
     Ok(lines)

@@ -52,9 +52,8 @@ pub fn steps_for(
 {
     let mut steps = Vec::new(heap);
     for item in records {
-        match item {
-            Ok(request) => steps.push(unsent(heap, *request, places)?)?,
-            Err(_) => {}
+        if let Ok(request) = item {
+            steps.push(unsent(heap, *request, places)?)?;
         }
     }
     Ok(steps)

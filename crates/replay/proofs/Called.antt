@@ -7,9 +7,10 @@ use Rattle.plain.specs.Orders.{keep, total, within}
 use Rattle.plain.specs.Price.{volume, imbalance, preferred, first, buy_steps, sell_steps, best_price}
 use Rattle.plain.specs.Sound.{AllLive}
 use Rattle.plain.proofs.Kept.{total_keep}
-use Rattle.replay.specs.declared.quote.Quote.{Quote}
+use Rattle.quotes.specs.declared.quote.Quote.{Quote}
+use Rattle.quotes.specs.Quotes.{preferred_to}
 use Rattle.replay.specs.Lists.{capped}
-use Rattle.replay.specs.Quotes.{preferred_to, quote_at, better_of, best_over, best_quote}
+use Rattle.replay.specs.Quotes.{quote_at, better_of, best_over, best_quote}
 
 -- the tonnes of live orders fit a number of the program
 total_high : (f : Order → Bool) (s : Side) (next : ℕ) (os : List Order) → AllLive s next os → total (keep f os) ≤ 50000 * length os

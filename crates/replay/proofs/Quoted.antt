@@ -3,8 +3,9 @@ use Rattle.std.proofs.Common.{◌≡◌, ℕ, ◌+◌, ◌<◌, List, length, ge
 use Rattle.std.proofs.lemmas.List.{at_drop_more}
 use Rattle.orders.specs.declared.request.Side.{Side}
 use Rattle.orders.specs.declared.order.Order.{Order}
-use Rattle.replay.specs.declared.quote.Quote.{Quote}
-use Rattle.replay.specs.Quotes.{step_of, better_of, best_over}
+use Rattle.quotes.specs.declared.quote.Quote.{Quote}
+use Rattle.quotes.specs.Steps.{step_of}
+use Rattle.replay.specs.Quotes.{better_of, best_over}
 
 pub best_more : (buys sells : List Order) (side : Side) (best best' : Quote) (step : Option ℕ) (os : List Order) (i : ℕ) (d : Order) → i < length os →
     step ≡ step_of side (get_or os i d).price → best' ≡ better_of buys sells best step →

@@ -1,11 +1,20 @@
 -- Fills held against two lists of orders, one fill at a time. Assumes nothing.
-use Rattle.std.proofs.Common.{◌≡◌, ℕ, ◌+◌, ◌-◌, ◌<◌, ◌≤◌, Bool, true, false, not, ◌&&◌, List, length, get_or, drop, is_some, Option, sym, ap, ◌∙◌}
+use Rattle.std.proofs.Common.{◌≡◌, ℕ, ◌+◌, ◌-◌, ◌<◌, ◌≤◌, Bool, true, false, not, ◌&&◌, List, length, get_or, drop, is_some, None, Some, Option, sym, refl, ap, ◌∙◌}
 use Rattle.std.proofs.lemmas.List.{at_drop_more, at_drop_all}
 use Rattle.orders.specs.declared.order.Order.{Order}
 use Rattle.orders.specs.declared.order.Fill.{Fill}
 use Rattle.plain.specs.Dealing.{Pricing}
+use Rattle.replay.specs.declared.queue.Queue.{Queue}
 use Rattle.replay.specs.Lists.{head_of, cut_list}
+use Rattle.replay.specs.Queues.{led, queued}
 use Rattle.replay.specs.Fills.{is_fill, first_fill, agrees}
+
+first_led : (o : Option Order) (os : List Order) → o ≡ head_of (led o os)
+first_led None os = refl
+first_led (Some o) os = refl
+
+pub queued_first : (q : Queue) → q.first ≡ head_of (queued q)
+queued_first q = first_led q.first q.rest.now
 
 not_flips : (r t : Bool) → t ≡ not r → r ≡ not t
 not_flips true t e = sym (ap not e)

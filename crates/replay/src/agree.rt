@@ -1,26 +1,12 @@
 ghost use Rattle.std.specs.Prelude.{◌≡◌};
-ghost use Rattle.plain.specs.Book.{order};
 ghost use Rattle.replay.specs.Agreeing.{entry_agrees, call_agrees};
 
 use crate::fills::{Terms, is_dealt};
 use crate::lists::{retain_within, tonnes_within};
-use crate::quote::{best_quote, called_price};
+use crate::quote::best_quote;
 use orders::entry::Entry;
 use orders::order::{Fill, Order};
 use orders::request::Side;
-
-fn order_of(entry: &Entry, number: u32) -> Order
-    ensures { result ≡ order entry.now number }
-{
-    Order {
-        number,
-        member: entry.member(),
-        side: entry.side(),
-        price: entry.price(),
-        quantity: entry.quantity(),
-        remaining: entry.quantity(),
-    }
-}
 
 // Whether an entry that goes by a number has its minimum within its reach of the other side's orders, and deals these fills.
 // What the list holds after it is of no use.
@@ -33,8 +19,8 @@ pub fn entry_agrees(entry: &Entry, number: u32, resting: &mut [Order], fills: &[
         return false;
     }
     let count = retain_within(resting, side, entry.price());
-    let others = &mut resting[..count];
-    let own = &mut [order_of(entry, number)];
+    let others = &resting[..count];
+    let own = &[entry.order(number)];
     let tonnes = entry.quantity().min(reach);
     match side {
         Side::Buy => is_dealt(Terms::Resting(side), tonnes, own, others, fills),
@@ -54,7 +40,7 @@ pub fn call_agrees(
     ensures { result ≡ call_agrees price volume buys.old sells.old fills.now }
 {
     let best = best_quote(buys, sells);
-    if price != called_price(&best) || volume != best.volume {
+    if price != best.called_price() || volume != best.volume {
         return false;
     }
     let buyers = retain_within(buys, Side::Sell, price);
@@ -62,8 +48,8 @@ pub fn call_agrees(
     is_dealt(
         Terms::Uniform(price),
         volume,
-        &mut buys[..buyers],
-        &mut sells[..sellers],
+        &buys[..buyers],
+        &sells[..sellers],
         fills,
     )
 }

@@ -1,12 +1,13 @@
 ghost use Rattle.std.specs.Prelude.{◌≡◌};
 ghost use Rattle.plain.specs.Dealing.{fill};
-ghost use Rattle.replay.specs.Fills.{pricing, same_fill, is_fill, first_fill, agrees};
+ghost use Rattle.replay.specs.Fills.{pricing, is_fill, first_fill, agrees};
 
-use crate::lists::{order_from, take_from};
+use crate::queue::Queue;
 use orders::order::{Fill, Order};
 use orders::request::Side;
 
 // How fills are priced: at the resting order's price, where an order of the side came in, or all at one.
+// An enum and no closure, since clauses name the price by it; of a closure each would have to ask what it answers.
 #[derive(Clone, Copy)]
 pub(crate) enum Terms {
     Resting(Side),
@@ -23,30 +24,6 @@ fn price_of(terms: Terms, buy: &Order, sell: &Order) -> u32
     }
 }
 
-fn fill_of(terms: Terms, buy: &Order, sell: &Order, quantity: u32) -> Fill
-    ensures { result ≡ fill (pricing terms) buy.now sell.now quantity }
-{
-    Fill {
-        buy: buy.number,
-        sell: sell.number,
-        buyer: buy.member,
-        seller: sell.member,
-        price: price_of(terms, buy, sell),
-        quantity,
-    }
-}
-
-fn is_same(a: &Fill, b: &Fill) -> bool
-    ensures { result ≡ same_fill a.now b.now }
-{
-    a.buy == b.buy
-        && a.sell == b.sell
-        && a.buyer == b.buyer
-        && a.seller == b.seller
-        && a.price == b.price
-        && a.quantity == b.quantity
-}
-
 // The first fill of the tonnes left, if there are any and both sides have somebody.
 fn next_fill(terms: Terms, left: u32, buy: Option<Order>, sell: Option<Order>) -> Option<Fill>
     ensures { result ≡ first_fill (pricing terms) left buy sell }
@@ -57,42 +34,36 @@ fn next_fill(terms: Terms, left: u32, buy: Option<Order>, sell: Option<Order>) -
         return None;
     }
     let quantity = left.min(buy.remaining).min(sell.remaining);
-    Some(fill_of(terms, &buy, &sell, quantity))
+    let price = price_of(terms, &buy, &sell);
+    Some(Fill::between(&buy, &sell, price, quantity))
 }
 
 fn is_next(f: &Fill, next: Option<Fill>) -> bool
     ensures { result ≡ is_fill f.now next }
 {
-    match next {
-        None => false,
-        Some(g) => is_same(f, &g),
-    }
+    next == Some(*f)
 }
 
 // Whether fills are those of so many tonnes that the buyers and the sellers deal, each from the front.
 pub(crate) fn is_dealt(
     terms: Terms,
     tonnes: u32,
-    buyers: &mut [Order],
-    sellers: &mut [Order],
+    buyers: &[Order],
+    sellers: &[Order],
     fills: &[Fill],
 ) -> bool
-    ensures { result ≡ agrees (pricing terms) tonnes buyers.old sellers.old fills.now }
+    ensures { result ≡ agrees (pricing terms) tonnes buyers.now sellers.now fills.now }
 {
     let mut left = tonnes;
-    let mut buyer = 0;
-    let mut seller = 0;
+    let mut buys = Queue::over(buyers);
+    let mut sells = Queue::over(sellers);
     for f in fills {
-        let buy = order_from(buyers, buyer);
-        let sell = order_from(sellers, seller);
-        if !is_next(f, next_fill(terms, left, buy, sell)) {
+        if !is_next(f, next_fill(terms, left, buys.first, sells.first)) {
             return false;
         }
         left = left.saturating_sub(f.quantity);
-        buyer = take_from(buyers, buyer, f.quantity);
-        seller = take_from(sellers, seller, f.quantity);
+        buys = buys.after(f.quantity);
+        sells = sells.after(f.quantity);
     }
-    let buy = order_from(buyers, buyer);
-    let sell = order_from(sellers, seller);
-    next_fill(terms, left, buy, sell).is_none()
+    next_fill(terms, left, buys.first, sells.first).is_none()
 }

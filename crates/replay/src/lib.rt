@@ -4,4 +4,5 @@
 pub mod agree;
 mod fills;
 mod lists;
+mod queue;
 mod quote;

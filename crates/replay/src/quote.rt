@@ -1,52 +1,19 @@
 ghost use Rattle.std.specs.Prelude.{◌≡◌};
-ghost use Rattle.replay.specs.Quotes.{quote_at, preferred_to, step_of, better_of, best_over, best_quote, called_price};
+ghost use Rattle.replay.specs.Quotes.{quote_at, better_of, best_over, best_quote};
 
 use crate::lists::tonnes_within;
 use orders::order::Order;
 use orders::request::Side;
+use quotes::quote::Quote;
+use quotes::step::step_of;
 
-// What a call would deal at a price, and by how many tonnes the two sides differ there.
-#[derive(Clone, Copy)]
-pub(crate) struct Quote {
-    pub price: u32,
-    pub volume: u32,
-    pub imbalance: u32,
-}
-
+// What a call of these buys and sells would deal at a price.
 fn quote_at(buys: &[Order], sells: &[Order], price: u32) -> Quote
     ensures { result ≡ quote_at buys.now sells.now price }
 {
     let bought = tonnes_within(buys, Side::Sell, price);
     let sold = tonnes_within(sells, Side::Buy, price);
-    Quote {
-        price,
-        volume: bought.min(sold),
-        imbalance: bought.abs_diff(sold),
-    }
-}
-
-// More tonnes first, then the smaller imbalance, then the lower price.
-fn is_preferred(a: &Quote, b: &Quote) -> bool
-    ensures { result ≡ preferred_to a.now b.now }
-{
-    let closer = a.imbalance < b.imbalance || (a.imbalance == b.imbalance && a.price < b.price);
-    b.volume < a.volume || (b.volume == a.volume && closer)
-}
-
-// The price from which an order changes what is dealt, if it is one.
-fn step_of(side: Side, price: u32) -> Option<u32>
-    ensures { result ≡ step_of side price }
-{
-    match side {
-        Side::Buy => {
-            if price < 100000 {
-                Some(price + 1)
-            } else {
-                None
-            }
-        }
-        Side::Sell => Some(price),
-    }
+    Quote::new(price, bought, sold)
 }
 
 // The better of a quote and that at a price, if any.
@@ -55,14 +22,7 @@ fn better_of(buys: &[Order], sells: &[Order], best: Quote, step: Option<u32>) ->
 {
     match step {
         None => best,
-        Some(price) => {
-            let quote = quote_at(buys, sells, price);
-            if is_preferred(&quote, &best) {
-                quote
-            } else {
-                best
-            }
-        }
+        Some(price) => best.better(quote_at(buys, sells, price)),
     }
 }
 
@@ -84,11 +44,4 @@ pub(crate) fn best_quote(buys: &[Order], sells: &[Order]) -> Quote
     let lowest = quote_at(buys, sells, 1);
     let of_buys = best_over(buys, sells, Side::Buy, buys, lowest);
     best_over(buys, sells, Side::Sell, sells, of_buys)
-}
-
-// The price of a call, or 0 where nothing deals.
-pub(crate) fn called_price(best: &Quote) -> u32
-    ensures { result ≡ called_price best.now }
-{
-    if best.volume == 0 { 0 } else { best.price }
 }

@@ -1,6 +1,5 @@
 mod Alike
 mod Bounded
-mod Faults
 mod Priced
 mod Ranks
 mod Totals

@@ -55,14 +55,8 @@ fn settle_over<L: Places<Record = Order> + Drop, M: Places<Record = Order> + Dro
     requires empty { ledger.old.rows ≡ replicate 64 nothing }
     ensures { MatchResult result (λ settled. IfOk settled (λ notes. Clear (day_setup time 8) records.now ledger.new.rows notes.items)) (λ _. ⊥) }
 {
-    let shelf = match Shelf::over(list, Time) {
-        Ok(book) => book,
-        Err(refused) => return Err(refused.cause),
-    };
-    let ranked = match open(other, Time) {
-        Ok(book) => book,
-        Err(refused) => return Err(refused.cause),
-    };
+    let shelf = Shelf::over(list, Time).map_err(|refused| refused.cause)?;
+    let ranked = open(other, Time).map_err(|refused| refused.cause)?;
     Ok(settle_between(heap, shelf, ranked, ledger, records))
 }
 

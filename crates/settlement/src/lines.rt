@@ -22,12 +22,8 @@ fn push_place(lines: &mut Vec<Line>, rank: usize, place: Option<Standing>) -> Re
     ensures { OnOk result (lines.new.items ≡ lines.old.items ++ place_line rank place) }
 {
     match place {
-        Some(standing) => {
-            if !is_idle(&standing.row) {
-                lines.push(Line::Member(rank, standing))?;
-            }
-        }
-        None => {}
+        Some(standing) if !is_idle(&standing.row) => lines.push(Line::Member(rank, standing))?,
+        _ => {}
     }
     Ok(())
 }
@@ -37,6 +33,7 @@ fn push_standing(lines: &mut Vec<Line>, ledger: &Ledger) -> Result<(), AllocErro
     ensures { OnOk result (StandingLines ledger.now.rows lines.old.items lines.new.items) }
 {
     let board = rank_members(ledger);
+    // By the place's count, which is the rank: to count what `each` gives would ask for a bound on the count.
     for i in 0..board.len() {
         push_place(lines, i + 1, board.get(i))?;
     }
@@ -48,10 +45,7 @@ fn push_standing(lines: &mut Vec<Line>, ledger: &Ledger) -> Result<(), AllocErro
 pub fn listing(heap: Global, notes: &[Noted], ledger: &Ledger) -> Result<Vec<Line>, AllocError>
     ensures { IfOk result (λ v. Listed notes.now ledger.now.rows v.items) }
 {
-    let mut lines = Vec::new(heap);
-    for noted in notes {
-        lines.push(Line::Wrong(*noted))?;
-    }
+    let mut lines = notes.iter().copied().map(Line::Wrong).collect(heap)?;
     push_standing(&mut lines, ledger)?;
     Ok(lines)
 }

@@ -2,4 +2,3 @@ pub mod Alike
 mod OfReply
 pub mod Onward
 mod Replying
-mod Taken

@@ -20,12 +20,6 @@ pub fn check_and_book<V: Venue>(
     ensures booked { BookedOrNot ledger.old.rows claim.now.fills.items ledger.new.rows result }
     ensures fits { OnOk result (Fits ledger.old.rows claim.now.fills.items) }
 {
-    let checked = match check(venue, claim) {
-        Ok(checked) => checked,
-        Err(cause) => return Err(Unbooked::Failed(cause)),
-    };
-    match ledger.book(checked) {
-        Ok(()) => Ok(()),
-        Err(cause) => Err(Unbooked::Full(cause)),
-    }
+    let checked = check(venue, claim).map_err(Unbooked::Failed)?;
+    ledger.book(checked).map_err(Unbooked::Full)
 }

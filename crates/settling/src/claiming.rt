@@ -22,18 +22,6 @@ fn subject_of(phase: Phase, request: &Request, answer: &Answer) -> Option<Subjec
     }
 }
 
-// How many fills an answer says that it has.
-fn fill_count(answer: &Answer) -> usize
-    ensures { result ≡ count answer.now }
-{
-    match answer {
-        Answer::Entered(entered) => entered.fills as usize,
-        Answer::Withdrawn(_) => 0,
-        Answer::Called(called) => called.fills as usize,
-        Answer::Halted => 0,
-    }
-}
-
 // The claim that an answer makes with the fills that it counts, if it may be claimed.
 pub fn claim_of(
     heap: Global,
@@ -47,8 +35,6 @@ pub fn claim_of(
     let Some(subject) = subject_of(phase, request, answer) else {
         return Ok(None);
     };
-    let counted = fill_count(answer).min(fills.len());
-    let mut claimed = Vec::new(heap);
-    claimed.extend_from_slice(&fills[0..counted])?;
-    Ok(Some(Claim::new(subject, claimed)))
+    let counted = fills.iter().take(answer.fill_count()).copied();
+    Ok(Some(Claim::new(subject, counted.collect(heap)?)))
 }

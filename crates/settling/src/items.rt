@@ -12,6 +12,7 @@ use std::alloc::{AllocError, Global};
 use venue::venue::Venue;
 
 // Settles the request of an item, if it has one.
+// The venues and the ledger are parameters here and in `settle_request`: each has a clause of its own, which a struct would only repeat by field.
 fn settle_item<V: Venue, W: Venue>(
     heap: Global,
     first: &mut V,

@@ -10,7 +10,7 @@ use std::alloc::{AllocError, Global};
 use venue::venue::Venue;
 
 // What a venue answered to a request, and the fills that it dealt.
-#[derive(Drop)]
+#[derive(Drop, PartialEq, Eq)]
 pub struct Reply {
     pub outcome: Result<Answer, Refusal>,
     pub fills: Vec<Fill>,
@@ -42,15 +42,10 @@ pub(crate) fn reply_of<V: Venue>(
     Ok(Reply { outcome, fills })
 }
 
-fn same_fills(a: &[Fill], b: &[Fill]) -> bool
-    ensures { Decides result (a.now ≡ b.now) }
-{
-    a == b
-}
-
-// Whether two replies have the same answer or refusal, and the same fills.
+// Whether two replies have the same answer or refusal, and the same fills. A function of its own, since where more is known besides
+// the proof does not find what `==` of two replies says.
 pub(crate) fn is_same(a: &Reply, b: &Reply) -> bool
     ensures { Decides result (SameReply a.now.outcome a.now.fills.items b.now.outcome b.now.fills.items) }
 {
-    a.outcome == b.outcome && same_fills(a.fills.as_slice(), b.fills.as_slice())
+    a == b
 }

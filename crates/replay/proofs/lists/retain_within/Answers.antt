@@ -4,14 +4,14 @@ use Rattle.std.proofs.lemmas.List.Filters.{FiltersInPlace-all, FiltersInPlace-mo
 use Rattle.plain.specs.Orders.{within}
 use Rattle.replay.proofs.Listed.{kept_is}
 use Rattle.replay.proofs.lists.retain_within.Goals as goal
-use Rattle.replay.proofs.lists.retain_within.Goals.{then-is_within, else-is_within}
+use Rattle.replay.proofs.lists.retain_within.Goals.{then-reaches, else-reaches}
 
 pub loop-i-preserved : goal.loop-i-preserved
 loop-i-preserved c =
     let inside : c.loop-i.i < length c.loop-i.orders = omega arith in
-    elim c.if-is_within.branch [
-      | then-is_within w ↦ rw (w.orders-is, w.n-is) (FiltersInPlace-more_set c.loop-i.invariant inside (sym c.is_within.ensures ∙ w.if-is_within.true) (get_or_default c.loop-i.orders c.loop-i.i _ _ inside))
-      | else-is_within w ↦ rw (w.orders-is, w.n-is) (FiltersInPlace-more_no c.loop-i.invariant inside (sym c.is_within.ensures ∙ w.if-is_within.false) (get_or_default c.loop-i.orders c.loop-i.i _ _ inside))
+    elim c.if-reaches.branch [
+      | then-reaches w ↦ rw (w.orders-is, w.n-is) (FiltersInPlace-more_set c.loop-i.invariant inside (sym c.reaches.ensures ∙ w.if-reaches.true) (get_or_default c.loop-i.orders c.loop-i.i _ _ inside))
+      | else-reaches w ↦ rw (w.orders-is, w.n-is) (FiltersInPlace-more_no c.loop-i.invariant inside (sym c.reaches.ensures ∙ w.if-reaches.false) (get_or_default c.loop-i.orders c.loop-i.i _ _ inside))
     ]
 
 pub returns : goal.returns

@@ -1,33 +1,15 @@
-use Rattle.std.proofs.Common.{◌≡◌, arith}
-use Rattle.orders.specs.declared.request.Side.TheVariants.{Buy, Sell}
-use Rattle.ledger.specs.Rows.UnitOf.{tonnes, pence}
-use Rattle.ledger.proofs.Summing.{summed_none, summed_more, sum_fits}
+use Rattle.std.proofs.Common.{◌≡◌, refl, arith}
+use Rattle.ledger.proofs.Summing.{summed_none, summed_more}
 use Rattle.ledger.proofs.totals.Ledger.sum.Goals as goal
 
-pub loop-member-init : goal.loop-member-init
-loop-member-init c = summed_none c.args.self.now.rows c.args.self.now.within
+pub loop-row-init : goal.loop-row-init
+loop-row-init c = summed_none c.args.self.now.rows c.args.self.now.within
 
-pub overflow_add-sum : goal.overflow_add-sum
-overflow_add-sum c =
-    omega (arith, sum_fits c.args.self.now.rows c.args.self.now.within c.loop-member.member c.loop-member.sum c.row-row.result c.loop-member.invariant c.row-row.ensures c.loop-member-test.true Buy tonnes)
-
-pub overflow_add-sum-in-loop-member : goal.overflow_add-sum-in-loop-member
-overflow_add-sum-in-loop-member c =
-    omega (arith, sum_fits c.args.self.now.rows c.args.self.now.within c.loop-member.member c.loop-member.sum c.row-row.result c.loop-member.invariant c.row-row.ensures c.loop-member-test.true Sell tonnes)
-
-pub overflow_add-sum-in-loop-member-2 : goal.overflow_add-sum-in-loop-member-2
-overflow_add-sum-in-loop-member-2 c =
-    omega (arith, sum_fits c.args.self.now.rows c.args.self.now.within c.loop-member.member c.loop-member.sum c.row-row.result c.loop-member.invariant c.row-row.ensures c.loop-member-test.true Buy pence)
-
-pub overflow_add-sum-in-loop-member-3 : goal.overflow_add-sum-in-loop-member-3
-overflow_add-sum-in-loop-member-3 c =
-    omega (arith, sum_fits c.args.self.now.rows c.args.self.now.within c.loop-member.member c.loop-member.sum c.row-row.result c.loop-member.invariant c.row-row.ensures c.loop-member-test.true Sell pence)
-
-pub loop-member-preserved : goal.loop-member-preserved
-loop-member-preserved c =
-    summed_more c.args.self.now.rows c.args.self.now.within c.loop-member.member c.loop-member.sum c.row-row.result c.loop-member.invariant c.row-row.ensures
+pub loop-row-preserved : goal.loop-row-preserved
+loop-row-preserved c =
+    rw c.add-sum.ensures (summed_more c.args.self.now.rows c.args.self.now.within c.loop-row.row-index c.loop-row.sum _ c.loop-row.invariant refl c.loop-row-test.true)
 
 pub returns : goal.returns
 returns c =
-    let all : c.loop-member.member ≡ 64 = omega arith in
-    rw all at c.loop-member.invariant.sums
+    let all : c.loop-row.row-index ≡ 64 = omega arith in
+    rw all at c.loop-row.invariant.sums
