@@ -108,21 +108,17 @@ fn deal_out<L: Places<Record = Order>, R: Priority>(
 ) -> Tally
     ensures { RunOut (R.Ranking.ahead rule.now) deal.now tonnes (L.Places.contents list.old) fills.old (L.Places.contents list.new) fills.new result }
 {
-    let mut tally = Tally {
-        count: 0,
-        left: tonnes,
-    };
+    let mut count = 0;
+    let mut left = tonnes;
     for place in fills.iter_mut() {
-        match deal_one(list, rule, deal, tally.left) {
-            None => return tally,
-            Some(fill) => {
-                *place = fill;
-                tally.count += 1;
-                tally.left -= fill.quantity;
-            }
-        }
+        let Some(fill) = deal_one(list, rule, deal, left) else {
+            break;
+        };
+        *place = fill;
+        count += 1;
+        left -= fill.quantity;
     }
-    tally
+    Tally { count, left }
 }
 
 // Deals an entry's order, if the book is dealing.

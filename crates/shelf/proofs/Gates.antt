@@ -1,8 +1,7 @@
 -- What a shelf refuses is what every book refuses. Assumes nothing.
-use Rattle.std.proofs.Common.{◌≡◌, ℕ, ◌≤◌, Bool, true, false, ltb, leb, List, length, Some, None, Option, sym, refl, ap, ◌∙◌, arith}
-use Rattle.std.proofs.lemmas.Bool.{ltb-false}
+use Rattle.std.proofs.Common.{◌≡◌, ℕ, Bool, true, false, ltb, leb, List, length, Some, None, Option, sym, refl, ap, ◌∙◌, arith}
 use Rattle.orders.specs.declared.refusal.Cause.{Cause}
-use Rattle.orders.specs.declared.refusal.Cause.TheVariants.{FillListShort, BookFull, NumbersSpent}
+use Rattle.orders.specs.declared.refusal.Cause.TheVariants.{FillListShort, BookFull}
 use Rattle.orders.specs.declared.entry.Entry.{Entry}
 use Rattle.orders.specs.declared.request.Request.TheVariants.{Enter}
 use Rattle.orders.specs.declared.order.Order.{Order}

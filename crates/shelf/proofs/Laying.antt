@@ -1,5 +1,5 @@
 -- What an entry leaves rests in one more place. Assumes nothing.
-use Rattle.std.proofs.Common.{◌≡◌, ℕ, ◌+◌, ◌-◌, ◌<◌, ◌≤◌, Bool, true, false, cond, ◌&&◌, ltb, List, [], ◌∷◌, length, get_or, set, None, sym, refl, ap, ◌∙◌, arith, length-set, Option, Some}
+use Rattle.std.proofs.Common.{◌≡◌, ℕ, ◌+◌, ◌-◌, ◌<◌, Bool, true, false, cond, ◌&&◌, ltb, List, [], ◌∷◌, length, get_or, set, None, sym, refl, ap, ◌∙◌, arith, length-set, Option, Some}
 use Rattle.std.proofs.lemmas.Bool.{true≢false, lt-ltb, and_from, cond-true}
 use Rattle.orders.specs.declared.request.Side.{Side}
 use Rattle.orders.specs.declared.request.Side.TheVariants.{Buy, Sell}

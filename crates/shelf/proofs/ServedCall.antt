@@ -1,5 +1,5 @@
 -- A call that is admitted, from what its fills leave in the places. Assumes nothing.
-use Rattle.std.proofs.Common.{◌≡◌, ℕ, ◌≤◌, min, Bool, false, ltb, List, length, Some, None, Ok, Err, sym, refl, ap, ◌∙◌, subst, le_refl, arith, Option}
+use Rattle.std.proofs.Common.{◌≡◌, ℕ, ◌≤◌, min, Bool, false, ltb, List, length, None, Ok, sym, refl, ap, ◌∙◌, subst, le_refl, arith, Option}
 use Rattle.orders.specs.declared.request.Request.TheVariants.{Call}
 use Rattle.orders.specs.declared.order.Order.{Order}
 use Rattle.orders.specs.declared.order.Fill.{Fill}
@@ -7,7 +7,6 @@ use Rattle.orders.specs.declared.order.Phase.{Phase}
 use Rattle.orders.specs.declared.order.Phase.TheVariants.{Dealing}
 use Rattle.orders.specs.declared.answer.Answer.{Answer}
 use Rattle.orders.specs.declared.answer.Answer.TheVariants.{Called}
-use Rattle.orders.specs.declared.refusal.Refusal.{Refusal}
 use Rattle.orders.specs.declared.refusal.Cause.TheVariants.{FillListShort, WrongPhase}
 use Rattle.plain.specs.Rule.{Rule}
 use Rattle.plain.specs.Price.{call_volume}
@@ -27,7 +26,7 @@ use Rattle.matching.specs.Deals.{RunOut}
 use Rattle.shelf.specs.Stands.{Stands}
 use Rattle.matching.proofs.RunsOut.{Dealt, runs_out}
 use Rattle.matching.proofs.Quoted.{called_volume, called_price_lem}
-use Rattle.shelf.proofs.Serving.{served_so, served_not}
+use Rattle.shelf.proofs.Serving.{served_so}
 
 -- what a call is answered
 abbrev pub call_answer : ℕ → ℕ → ℕ → Answer

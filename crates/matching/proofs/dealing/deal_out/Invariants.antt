@@ -4,5 +4,5 @@ use Rattle.matching.proofs.dealing.deal_out.Given as goal
 
 abbrev pub invariant-loop-place : goal.invariant-loop-place
 invariant-loop-place g l =
-    RunTo (g.R.Ranking.ahead l.rule) l.deal l.tonnes (g.L.Places.contents l.initial.list) l.initial.fills l.tally.count (g.L.Places.contents l.list) l.fills l.tally.left ×
-    (l.tally.count ≡ l.place-index)
+    RunTo (g.R.Ranking.ahead l.rule) l.deal l.tonnes (g.L.Places.contents l.initial.list) l.initial.fills l.count (g.L.Places.contents l.list) l.fills l.left ×
+    (l.count ≡ l.place-index)

@@ -1,5 +1,5 @@
 use Rattle.std.proofs.Common.{◌<◌, length, ap, arith}
-use Rattle.matching.specs.Weights.{place_weight, held_weight}
+use Rattle.matching.specs.Weights.{place_weight}
 use Rattle.matching.specs.Scans.{ahead_of}
 use Rattle.matching.proofs.Held.{held_more}
 use Rattle.matching.proofs.scan.count_ahead.Goals as goal

@@ -1,4 +1,4 @@
-use Rattle.std.proofs.Common.{◌≡◌, rules, refl, ap, ◌∙◌, subst}
+use Rattle.std.proofs.Common.{rules, refl, ap, ◌∙◌, subst}
 use Rattle.std.proofs.lemmas.Result.{err_from_is_err_and}
 use Rattle.shelf.specs.Entering.{left_of, Laid, entry_answer}
 use Rattle.orders.specs.declared.answer.Answer.TheVariants.{Entered}

@@ -1,8 +1,6 @@
-use Rattle.std.proofs.Common.{◌≡◌, length, ap, ◌∙◌, subst, sym, arith}
+use Rattle.std.proofs.Common.{length, ap, ◌∙◌, arith}
 use Rattle.std.proofs.lemmas.List.{length-replicate}
 use Rattle.venue.specs.Meaning.{book_setup}
-use Rattle.orders.specs.declared.order.Phase.TheVariants.{Gathering}
-use Rattle.shelf.specs.Stands.{Stands}
 use Rattle.shelf.proofs.Starts.{stands_new}
 use Rattle.shelf.proofs.shelf.Shelf.over.Goals as goal
 

@@ -1,4 +1,4 @@
-use Rattle.std.proofs.Common.{◌≡◌, ℕ, List, length, Some, None, Option, sym, refl, ap, ◌∙◌, subst, length-set}
+use Rattle.std.proofs.Common.{◌≡◌, ℕ, length, Some, None, sym, refl, ap, ◌∙◌, subst, length-set}
 use Rattle.orders.specs.declared.order.Order.{Order}
 use Rattle.orders.specs.declared.answer.Answer.TheVariants.{Withdrawn}
 use Rattle.orders.specs.declared.request.Request.TheVariants.{Withdraw}
