@@ -34,7 +34,8 @@ impl<L: Places<Record = Order>> Lineup<L> {
         }
     }
 
-    // What a side sees in a place.
+    // What a side sees in a place. Each of the four functions from here on picks the list or its mirror, which are of
+    // two types: no closure takes either, and a trait for it has more lines than the four choices.
     pub(crate) fn get(&self, side: Side, i: usize) -> Option<Order>
         ensures { result ≡ slice_index_or (seen side (L.Places.contents self.now.mirrored.list)) i None }
     {

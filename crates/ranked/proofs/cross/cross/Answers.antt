@@ -1,13 +1,13 @@
-use Rattle.std.proofs.Common.{refl, ◌∙◌, arith}
+use Rattle.std.proofs.Common.{◌∙◌, arith}
 use Rattle.lineup.proofs.Ranks.{best_none}
 use Rattle.ranked.proofs.Crosses.{bought_lies, crosses, no_buys, no_sells}
 use Rattle.ranked.proofs.cross.cross.Goals as goal
 
-pub returns-in_err-sell : goal.returns-in_err-sell
-returns-in_err-sell g c = rw c.from_residual.ensures (record { few = (refl, tt); taken = λ b l. no_sells b (best_none b.sells (c.in_err-sell.ensures b l)) })
+pub returns-in_err-sell-clause-taken : goal.returns-in_err-sell-clause-taken
+returns-in_err-sell-clause-taken g c b l = rw c.from_residual.ensures (no_sells b (best_none b.sells (c.in_err-sell.ensures b l)))
 
-pub returns-in_err-bought : goal.returns-in_err-bought
-returns-in_err-bought g c = rw c.from_residual-in_err-bought.ensures (record { few = (c.in_err-bought.ensures.few.0, tt); taken = λ b l. no_buys b (c.in_err-bought.ensures.taken b l).0 })
+pub returns-in_err-bought-clause-taken : goal.returns-in_err-bought-clause-taken
+returns-in_err-bought-clause-taken g c b l = rw c.from_residual-in_err-bought.ensures (no_buys b (c.in_err-bought.ensures.taken b l).0)
 
 pub returns-in_err-sold : goal.returns-in_err-sold
 returns-in_err-sold g c = rw c.from_residual-in_err-sold.ensures (record {

@@ -1,10 +1,7 @@
-use Rattle.std.proofs.Common.{◌≡◌, refl, ◌∙◌, arith}
+use Rattle.std.proofs.Common.{◌≡◌, ◌∙◌, arith}
 use Rattle.std.proofs.lemmas.List.{length-take-le, set-get_or}
-use Rattle.ranked.proofs.Called.{calling_none, calling_more, calling_used, calling_on, crossed_so, none_left}
+use Rattle.ranked.proofs.Called.{calling_more, calling_used, calling_on, crossed_so, none_left}
 use Rattle.ranked.proofs.cross.crossed.Goals as goal
-
-pub loop-count-init : goal.loop-count-init
-loop-count-init g c = (refl, λ rule b l sound bought sold. calling_none _ b rule sound _ _ _ _ l bought sold)
 
 pub loop-count-preserved : goal.loop-count-preserved
 loop-count-preserved g c = (
@@ -24,13 +21,10 @@ returns-then-left-eq0 g c = record {
       rw (set-get_or, same) (crossed_so few c.requires used);
 }
 
-pub returns-in_default : goal.returns-in_default
-returns-in_default g c = record {
-  capacity = c.in_default.ensures.few.0 ∙ c.loop-count.invariant.0;
-  dealt = λ rule b l sound bought sold few.
-      let calling = c.loop-count.invariant.1 rule b l sound bought sold in
-      absurd (omega (arith, (calling_on _ b _ _ _ _ _ _ _ calling (omega (arith, c.if-left-eq0.false))).0, c.in_default.ensures.taken _ calling.lies));
-}
+pub returns-in_default-clause-dealt : goal.returns-in_default-clause-dealt
+returns-in_default-clause-dealt g c rule b l sound bought sold few =
+    let calling = c.loop-count.invariant.1 rule b l sound bought sold in
+    absurd (omega (arith, (calling_on _ b _ _ _ _ _ _ _ calling (omega (arith, c.if-left-eq0.false))).0, c.in_default.ensures.taken _ calling.lies))
 
 pub returns : goal.returns
 returns g c = record {

@@ -4,8 +4,8 @@ use Rattle.lineup.proofs.Ranks.{best_none, best_some}
 use Rattle.lineup.proofs.Rested.{both_counts}
 use Rattle.ranked.proofs.deal.take_turn.Goals as goal
 
-pub returns-in_err-order : goal.returns-in_err-order
-returns-in_err-order g c = rw c.from_residual.ensures (record { few = (refl, omega arith, tt); taken = λ b l. (best_none _ (c.in_err-order.ensures b l), refl, refl) })
+pub returns-in_err-order-clause-taken : goal.returns-in_err-order-clause-taken
+returns-in_err-order-clause-taken g c b l = rw c.from_residual.ensures (best_none _ (c.in_err-order.ensures b l), refl, refl)
 
 pub returns-then-n-order : goal.returns-then-n-order
 returns-then-n-order g c =

@@ -1,7 +1,7 @@
 use Rattle.std.proofs.Common.{rules, sym, arith}
 use Rattle.plain.specs.Book.{side}
 use Rattle.lineup.proofs.Mirror.{seen_length}
-use Rattle.lineup.proofs.Finding.{finding_more, finding_one, finding_all}
+use Rattle.lineup.proofs.Finding.{finding_more, finding_one}
 use Rattle.lineup.proofs.Laying.{own_after, starts_at}
 use Rattle.lineup.proofs.lineup.Lineup.find.Goals as goal
 use Rattle.lineup.proofs.lineup.Lineup.find.Goals.{in-Some+else-order-number, in_default}
@@ -21,9 +21,3 @@ loop-i-preserved g c b l =
       | in-Some+else-order-number w ↦ search rules
       | in_default w ↦ search rules
     ])
-
-pub returns : goal.returns
-returns g c b l =
-    let t = c.args.side in
-    finding_all _ _ _ _ (side t b) _ (starts_at _ _ b l t) (own_after _ _ b l t) (c.loop-i.invariant b l)
-    (omega (arith, l.size, seen_length t (g.L.Places.contents c.args.self.now.mirrored.list)))

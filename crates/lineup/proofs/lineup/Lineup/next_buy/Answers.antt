@@ -2,9 +2,6 @@ use Rattle.std.proofs.Common.{◌≡◌, ◌∷◌, ◌++◌, length, get_or, sy
 use Rattle.lineup.proofs.Meeting.{buy_at, buy_there, buys_few, vacant_holds, holds_same}
 use Rattle.lineup.proofs.lineup.Lineup.next_buy.Goals as goal
 
-pub returns-then-left-eq0 : goal.returns-then-left-eq0
-returns-then-left-eq0 g c = record { some = tt; next = λ b below above l are at x later is. let m = ap length is in absurd (omega (arith, at, c.if-left-eq0.true)) }
-
 pub returns-then-buy-limit : goal.returns-then-buy-limit
 returns-then-buy-limit g c = record {
   some = omega (arith, c.if-left-eq0.false);
