@@ -1,8 +1,6 @@
 use Rattle.std.proofs.Common.{◌<◌, length, sym, ◌∙◌, arith}
 use Rattle.std.proofs.lemmas.List.{get_or_default}
-use Rattle.std.proofs.lemmas.List.Filters.{FiltersInPlace-all, FiltersInPlace-more_no, FiltersInPlace-more_set}
-use Rattle.plain.specs.Orders.{within}
-use Rattle.replay.proofs.Listed.{kept_is}
+use Rattle.std.proofs.lemmas.List.Filters.{FiltersInPlace-more_no, FiltersInPlace-more_set}
 use Rattle.replay.proofs.lists.retain_within.Goals as goal
 use Rattle.replay.proofs.lists.retain_within.Goals.{then-reaches, else-reaches}
 
@@ -13,9 +11,3 @@ loop-i-preserved c =
       | then-reaches w ↦ rw (w.orders-is, w.n-is) (FiltersInPlace-more_set c.loop-i.invariant inside (sym c.reaches.ensures ∙ w.if-reaches.true) (get_or_default c.loop-i.orders c.loop-i.i _ _ inside))
       | else-reaches w ↦ rw (w.orders-is, w.n-is) (FiltersInPlace-more_no c.loop-i.invariant inside (sym c.reaches.ensures ∙ w.if-reaches.false) (get_or_default c.loop-i.orders c.loop-i.i _ _ inside))
     ]
-
-pub returns : goal.returns
-returns c = record {
-  kept = FiltersInPlace-all c.loop-i.invariant c.loop-i-test.false ∙ kept_is (within c.args.side c.args.limit) c.args.orders.now;
-  few = omega arith;
-}
