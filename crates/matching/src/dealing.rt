@@ -108,7 +108,7 @@ fn deal_out<L: Places<Record = Order>, R: Priority>(
 ) -> Tally
     ensures { RunOut (R.Ranking.ahead rule.now) deal.now tonnes (L.Places.contents list.old) fills.old (L.Places.contents list.new) fills.new result }
 {
-    let mut count = 0;
+    let mut count: usize = 0;
     let mut left = tonnes;
     for place in fills.iter_mut() {
         let Some(fill) = deal_one(list, rule, deal, left) else {
