@@ -11,7 +11,7 @@ use Rattle.plain.specs.Dealing.{dealt}
 use Rattle.plain.specs.Book.{resting_price, entry_buyers, entry_sellers}
 use Rattle.plain.specs.Sound.{AllLive}
 use Rattle.plain.proofs.Crossing.{cut_first, total_cut, dealt_nothing, BlindPricing, cross_more}
-use Rattle.matching.specs.Deals.{fill_at}
+use Rattle.orders.specs.Entries.{taken}
 
 -- the fills of so many tonnes of an order with those in its reach
 abbrev pub fills_of : Side → Order → ℕ → List Order → List Fill
@@ -60,14 +60,14 @@ module _ (o : Order) (left q : ℕ) where
 
 -- the first order opposite deals what it can, and the rest follows
 pub fills_more : (s : Side) (o : Order) (next left q : ℕ) (x : Order) (xs : List Order) → 1 ≤ left → 1 ≤ x.remaining → AllLive (other s) next xs → q ≡ min left x.remaining →
-    fills_of s o left (x ∷ xs) ≡ fill_at s o x q ∷ fills_of s o (left - q) (cut_first q x xs)
+    fills_of s o left (x ∷ xs) ≡ taken s o x q ∷ fills_of s o (left - q) (cut_first q x xs)
 fills_more Buy o next left q x xs some remains live is =
     let n = min left (total (x ∷ xs)) in
     let cut = total_cut q x xs (omega arith) in
     cross_more (resting_price Buy) (resting_blind Buy) next n q (with_remaining o left) x [] xs (omega arith) some live (omega arith) ∙
-    ap (λ fs. fill_at Buy o x q ∷ fs) (goes_on o left q Buy n (cut_first q x xs) (omega arith) (omega arith))
+    ap (λ fs. taken Buy o x q ∷ fs) (goes_on o left q Buy n (cut_first q x xs) (omega arith) (omega arith))
 fills_more Sell o next left q x xs some remains live is =
     let n = min left (total (x ∷ xs)) in
     let cut = total_cut q x xs (omega arith) in
     cross_more (resting_price Sell) (resting_blind Sell) next n q x (with_remaining o left) xs [] (omega arith) remains tt (omega arith) ∙
-    ap (λ fs. fill_at Sell o x q ∷ fs) (goes_on o left q Sell n (cut_first q x xs) (omega arith) (omega arith))
+    ap (λ fs. taken Sell o x q ∷ fs) (goes_on o left q Sell n (cut_first q x xs) (omega arith) (omega arith))

@@ -8,9 +8,10 @@ use Rattle.orders.specs.declared.order.Fill.{Fill}
 use Rattle.plain.specs.Rule.{Rule}
 use Rattle.matching.specs.declared.dealing.Deal.{Deal}
 use Rattle.matching.specs.declared.dealing.Deal.TheVariants.{Entry, Call}
-use Rattle.matching.specs.Deals.{fill_at, Turn, Turned, DealtOne, OneDeal, begin, more, RunTo}
+use Rattle.orders.specs.Entries.{taken}
+use Rattle.matching.specs.Deals.{Turn, Turned, DealtOne, OneDeal, begin, more, RunTo}
 
-pub fill_tonnes : (s : Side) (o x : Order) (n : ℕ) → (fill_at s o x n).quantity ≡ n
+pub fill_tonnes : (s : Side) (o x : Order) (n : ℕ) → (taken s o x n).quantity ≡ n
 fill_tonnes Buy o x n = refl
 fill_tonnes Sell o x n = refl
 

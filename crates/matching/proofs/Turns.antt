@@ -20,7 +20,8 @@ use Rattle.matching.specs.declared.dealing.Deal.{Deal}
 use Rattle.matching.specs.declared.dealing.Deal.TheVariants.{Entry, Call}
 use Rattle.matching.specs.Weights.{Weight, weight, place_weight, SameOrders}
 use Rattle.matching.specs.Scans.{same_side}
-use Rattle.matching.specs.Deals.{fill_at, reduced, crossing, EntryTurn, CallTurn, Turn}
+use Rattle.orders.specs.Entries.{taken}
+use Rattle.matching.specs.Deals.{reduced, crossing, EntryTurn, CallTurn, Turn}
 use Rattle.matching.proofs.Alike.{same_side_lem}
 use Rattle.matching.proofs.Held.{held_set}
 use Rattle.matching.proofs.Weighed.{weight_append}
@@ -79,18 +80,18 @@ module _ (rule : Rule) (s : Side) (limit : ℕ) (c : Book) (sound : Sound rule c
   head_kept_after : keep (within s limit) (settled (other s) (f ∷ []) (side (other s) c)) ≡ cut_first f.quantity x (keep (within s limit) head.rest)
   head_kept_after = ap (keep (within s limit)) head_settled ∙ keep_cut (within s limit) f.quantity x head.rest (still_within s limit x head.passes)
 
-names_theirs : (s : Side) (o x : Order) (q m : ℕ) → names (other s) m (fill_at s o x q) ≡ eqb x.number m
+names_theirs : (s : Side) (o x : Order) (q m : ℕ) → names (other s) m (taken s o x q) ≡ eqb x.number m
 names_theirs Buy o x q m = refl
 names_theirs Sell o x q m = refl
 
-names_own : (s : Side) (o x : Order) (q m : ℕ) → names s m (fill_at s o x q) ≡ eqb o.number m
+names_own : (s : Side) (o x : Order) (q m : ℕ) → names s m (taken s o x q) ≡ eqb o.number m
 names_own Buy o x q m = refl
 names_own Sell o x q m = refl
 
 module _ {rule : Rule} (c : Book) (sound : Sound rule c) (ps : List (Option Order)) (orders : SameOrders ps c) (phase : Phase) (next left : ℕ) (some : 1 ≤ left) where
   module _ (s : Side) (limit : ℕ) (o : Order) (i : ℕ) (x : Order) (q : ℕ) (head : Heads rule s limit c x) where
     abbrev F : Fill
-    F = fill_at s o x q
+    F = taken s o x q
 
     abbrev D : Book
     D = dealt_with phase next (F ∷ []) c
@@ -196,7 +197,7 @@ module _ {rule : Rule} (law : Lawful rule) (c : Book) (sound : Sound rule c) (ps
       let q = min left x.remaining in
       let head = found_first law ps c sound orders o.side o.price t.found t.first in
       subst (λ g. NextFill (Entry o) left c phase next qs g) (sym t.fill_is)
-      (subst (λ rs. NextFill (Entry o) left c phase next rs (fill_at o.side o x q)) (sym t.places_are)
+      (subst (λ rs. NextFill (Entry o) left c phase next rs (taken o.side o x q)) (sym t.places_are)
       (record {
         orders = entry_weighs c sound ps orders phase next left some o.side o.price o t.found.0 x q head new t.first.0 t.first.1;
         fills = entry_follows c sound ps orders phase next left some o.side o.price o t.found.0 x q head refl;

@@ -6,6 +6,7 @@ use Rattle.orders.specs.declared.order.Order.{Order}
 use Rattle.orders.specs.declared.order.Fill.{Fill}
 use Rattle.orders.specs.declared.order.Phase.{Phase}
 use Rattle.orders.specs.declared.order.Phase.TheVariants.{Gathering, Dealing}
+use Rattle.orders.specs.Entries.{taken}
 use Rattle.plain.specs.Rule.{Rule, with_remaining}
 use Rattle.plain.specs.Dealing.{fill}
 use Rattle.plain.specs.Book.{resting_price}
@@ -14,11 +15,6 @@ use Rattle.matching.specs.declared.dealing.Deal.{Deal}
 use Rattle.matching.specs.declared.dealing.Tally.{Tally}
 use Rattle.matching.specs.declared.dealing.Deal.TheVariants.{Entry, Call}
 use Rattle.matching.specs.Scans.{opposite}
-
--- the fill of an entry's order with a resting one
-abbrev pub fill_at : Side → Order → Order → ℕ → Fill
-fill_at Buy o x n = fill (resting_price Buy) o x n
-fill_at Sell o x n = fill (resting_price Sell) x o n
 
 -- the place of an order that gave n tonnes
 abbrev pub reduced : Order → ℕ → Option Order
@@ -32,7 +28,7 @@ FirstOpposite rule side limit ps = FirstIn (opposite side limit) rule ps (length
 pub record EntryTurn (rule : Rule) (o : Order) (left : ℕ) (ps qs : List (Option Order)) (f : Fill) : Type 0 where
   pub found : ℕ × Order
   pub first : FirstOpposite rule o.side o.price ps (Some found)
-  pub fill_is : f ≡ fill_at o.side o found.1 (min left found.1.remaining)
+  pub fill_is : f ≡ taken o.side o found.1 (min left found.1.remaining)
   pub places_are : qs ≡ slice_set ps found.0 (reduced found.1 (min left found.1.remaining))
 
 -- the tonnes dealt between a buy and a sell of which so many are left

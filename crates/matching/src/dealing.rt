@@ -1,6 +1,6 @@
 ghost use Rattle.std.specs.Prelude.{◌≡◌};
 ghost use Rattle.matching.specs.declared.dealing.Deal.TheVariants.{Entry, Call};
-ghost use Rattle.matching.specs.Deals.{fill_at, reduced, Turned, OneDeal, RunOut, DealtNow};
+ghost use Rattle.matching.specs.Deals.{reduced, Turned, OneDeal, RunOut, DealtNow};
 
 use crate::scan::first_opposite;
 use orders::order::{Fill, Order, Phase};
@@ -14,16 +14,6 @@ use ranking::rank::Priority;
 pub enum Deal {
     Entry(Order),
     Call(u32),
-}
-
-// The fill of an entry's order with a resting one, at the price of the latter.
-fn fill_at(o: &Order, x: &Order, quantity: u32) -> Fill
-    ensures { result ≡ fill_at o.now.side o.now x.now quantity }
-{
-    match o.side {
-        Side::Buy => Fill::between(o, x, x.price, quantity),
-        Side::Sell => Fill::between(x, o, x.price, quantity),
-    }
 }
 
 // The place of an order that gave so many tonnes.
@@ -53,7 +43,7 @@ fn deal_opposite<L: Places<Record = Order>, R: Priority>(
     let (i, x) = first_opposite(list, rule, o.side, o.price)?;
     let quantity = left.min(x.remaining);
     put(list, i, reduced_by(&x, quantity));
-    Some(fill_at(o, &x, quantity))
+    Some(Fill::taken(o, &x, quantity))
 }
 
 // Deals tonnes between the first-ranked buy and the first-ranked sell at a price, if any.

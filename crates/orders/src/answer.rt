@@ -1,9 +1,16 @@
 ghost use Rattle.std.specs.Prelude.{◌≡◌};
 ghost use Rattle.orders.specs.Answers.{count};
-ghost use Rattle.orders.specs.Entries.{entered};
+ghost use Rattle.orders.specs.Entries.{counted, entered};
 
 use crate::entry::Entry;
 use crate::request::Side;
+
+// A count as an answer has it: one past the largest number stays there.
+pub fn counted(n: usize) -> u32
+    ensures { result ≡ counted n }
+{
+    u32::try_from(n).unwrap_or(u32::MAX)
+}
 
 // What became of an entry.
 #[derive(Clone, Copy, PartialEq, Eq)]

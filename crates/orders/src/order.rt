@@ -1,5 +1,5 @@
 ghost use Rattle.std.specs.Prelude.{◌≡◌};
-ghost use Rattle.orders.specs.Entries.{fill_at};
+ghost use Rattle.orders.specs.Entries.{fill_at, taken};
 
 use crate::request::Side;
 
@@ -47,6 +47,16 @@ impl Fill {
             seller: sell.member,
             price,
             quantity,
+        }
+    }
+
+    // A fill of an order that comes with one that rests, at the price of that one.
+    pub fn taken(taker: &Order, resting: &Order, quantity: u32) -> Fill
+        ensures { result ≡ taken taker.now.side taker.now resting.now quantity }
+    {
+        match taker.side {
+            Side::Buy => Fill::between(taker, resting, resting.price, quantity),
+            Side::Sell => Fill::between(resting, taker, resting.price, quantity),
         }
     }
 }

@@ -9,15 +9,10 @@ use Rattle.orders.specs.declared.order.Order.{Order}
 use Rattle.orders.specs.declared.refusal.Cause.{Cause}
 use Rattle.orders.specs.declared.refusal.Cause.TheVariants.{FillListShort, WrongPhase, NoSuchOrder, BookFull, NumbersSpent, BelowMinimum}
 use Rattle.orders.specs.Causes.{when, first}
-use Rattle.orders.specs.Entries.{needs_dealing}
+pub use Rattle.orders.specs.Entries.{early}
 use Rattle.plain.specs.Rule.{Rule}
 use Rattle.plain.specs.Orders.{find}
 use Rattle.plain.specs.Book.{Book, Tape, reach, resting, reply}
-
--- an entry comes too early: it states a minimum or is to be killed, and nothing deals yet
-abbrev pub early : Phase → Entry → Bool
-early Gathering e = needs_dealing e
-early Dealing e = false
 
 -- while dealing, an entry's minimum is above its reach
 abbrev pub unreached : Phase → Entry → Book → Bool

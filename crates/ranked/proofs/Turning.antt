@@ -10,14 +10,15 @@ use Rattle.plain.specs.Orders.{keep, total, within, other}
 use Rattle.plain.specs.Dealing.{takes, fill, fills_with, left_of, paired, dealt, names, given, settled}
 use Rattle.plain.specs.Book.{resting_price, entry_buyers, entry_sellers}
 use Rattle.plain.specs.Sound.{LiveOrder, AllLive, NotNumbered, Distinct}
-use Rattle.ranked.specs.ByTurns.{fill_at, by_turns, left_by, cut_by}
+use Rattle.orders.specs.Entries.{taken}
+use Rattle.ranked.specs.ByTurns.{by_turns, left_by, cut_by}
 
 -- one more order
 pub turns_none : (s : Side) (o : Order) (n : ℕ) (os : List Order) → n ≡ 0 → by_turns s o n os ≡ []
 turns_none s o n [] e = refl
 turns_none s o n (x ∷ xs) e = cond-true (eqb n 0) [] _ (eq-eqb n 0 e)
 
-pub turns_more : (s : Side) (o : Order) (n : ℕ) (x : Order) (xs : List Order) → 0 < n → by_turns s o n (x ∷ xs) ≡ fill_at s o x (min n x.remaining) ∷ by_turns s o (n - x.remaining) xs
+pub turns_more : (s : Side) (o : Order) (n : ℕ) (x : Order) (xs : List Order) → 0 < n → by_turns s o n (x ∷ xs) ≡ taken s o x (min n x.remaining) ∷ by_turns s o (n - x.remaining) xs
 turns_more s o n x xs l = cond-false (eqb n 0) [] _ (ne_eqb n 0 (λ e. omega arith))
 
 pub left_none : (n : ℕ) (os : List Order) → n ≡ 0 → left_by n os ≡ os
@@ -32,11 +33,11 @@ left_part n x xs l h = cond-false (eqb n 0) (x ∷ xs) _ (ne_eqb n 0 (λ e. omeg
 
 -- one turn, and what it leaves
 pub turn_fills : (s : Side) (o : Order) (n : ℕ) (x : Order) (xs : List Order) → 0 < n →
-    by_turns s o n (x ∷ xs) ≡ fill_at s o x (min n x.remaining) ∷ by_turns s o (n - min n x.remaining) (cut_by n x xs)
+    by_turns s o n (x ∷ xs) ≡ taken s o x (min n x.remaining) ∷ by_turns s o (n - min n x.remaining) (cut_by n x xs)
 turn_fills s o n x xs l =
     let r = x.remaining in
     turns_more s o n x xs l ∙
-    ap (λ fs. fill_at s o x (min n r) ∷ fs)
+    ap (λ fs. taken s o x (min n r) ∷ fs)
     (⊎_elim
     (λ part. turns_none s o (n - r) xs (omega arith) ∙ sym (turns_none s o (n - min n r) (cut_by n x xs) (omega arith)))
     (λ whole.
@@ -124,15 +125,15 @@ dealt_by_turns Sell o next n os live h =
     (cases_eq n 0)
 
 -- what the fills give
-names_theirs : (s : Side) (o x : Order) (q m : ℕ) → names (other s) m (fill_at s o x q) ≡ eqb x.number m
+names_theirs : (s : Side) (o x : Order) (q m : ℕ) → names (other s) m (taken s o x q) ≡ eqb x.number m
 names_theirs Buy o x q m = refl
 names_theirs Sell o x q m = refl
 
-names_own : (s : Side) (o x : Order) (q m : ℕ) → names s m (fill_at s o x q) ≡ eqb o.number m
+names_own : (s : Side) (o x : Order) (q m : ℕ) → names s m (taken s o x q) ≡ eqb o.number m
 names_own Buy o x q m = refl
 names_own Sell o x q m = refl
 
-tonnes_at : (s : Side) (o x : Order) (q : ℕ) → (fill_at s o x q).quantity ≡ q
+tonnes_at : (s : Side) (o x : Order) (q : ℕ) → (taken s o x q).quantity ≡ q
 tonnes_at Buy o x q = refl
 tonnes_at Sell o x q = refl
 
@@ -176,7 +177,7 @@ module _ (s : Side) (o : Order) where
       (λ ne.
       let r = x.remaining in
       let l : 0 < n = omega arith in
-      let f = fill_at s o x (min n r) in
+      let f = taken s o x (min n r) in
       let fs = by_turns s o (n - r) xs in
       let later : settled (other s) (f ∷ fs) xs ≡ left_by (n - r) xs =
       settled_others (other s) x.number f fs (names_theirs s o x (min n r)) xs d.0 ∙ settled_turns u next (n - r) xs live.1 d.1 in
@@ -238,7 +239,7 @@ module _ (rule : Rule) (lawful : Lawful rule) (limit next : ℕ) where
       let k = cond-true (within s limit x) (x ∷ keep (within s limit) xs) (keep (within s limit) xs) in' in
       let t : n - x.remaining ≤ total (keep (within s limit) xs) = let g = ap total k in omega arith in
       ap (by_turns s o n) k ∙
-      ap (λ fs. cond (eqb n 0) [] (fill_at s o x (min n x.remaining) ∷ fs)) (turns_within s o (n - x.remaining) xs live.1 seq.1 t))
+      ap (λ fs. cond (eqb n 0) [] (taken s o x (min n x.remaining) ∷ fs)) (turns_within s o (n - x.remaining) xs live.1 seq.1 t))
       (λ out.
       let k = cond-false (within s limit x) (x ∷ keep (within s limit) xs) (keep (within s limit) xs) out ∙ none_within s x xs live.0 live.1 seq.0 out in
       let z : n ≡ 0 = let g = ap total k in omega arith in

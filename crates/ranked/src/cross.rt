@@ -7,8 +7,9 @@ ghost use Rattle.plain.specs.Sound.{Sound};
 ghost use Rattle.lineup.specs.Lying.{Lies};
 ghost use Rattle.ranked.specs.Crossings.{CrossTaken, Crossed};
 
-use crate::deal::{narrowed, take_turn};
+use crate::deal::take_turn;
 use lineup::lineup::Lineup;
+use orders::answer::counted;
 use orders::order::{Fill, Order};
 use orders::request::Side;
 use ranking::places::Places;
@@ -40,13 +41,13 @@ pub(crate) fn crossed<L: Places<Record = Order>>(
     let mut left = n;
     for (count, place) in fills[..capacity].iter_mut().enumerate() {
         if left == 0 {
-            return narrowed(count);
+            return counted(count);
         }
         let Some(fill) = cross(lineup, price, left) else {
-            return narrowed(count)
+            return counted(count)
         };
         *place = fill;
         left -= fill.quantity;
     }
-    narrowed(capacity)
+    counted(capacity)
 }

@@ -2,9 +2,10 @@ ghost use Rattle.std.specs.Prelude.{◌≡◌, ◌+◌, ◌-◌, ◌^◌, ◌≤
 ghost use Rattle.plain.specs.Orders.{other};
 ghost use Rattle.plain.specs.Book.{Book, side as side_of};
 ghost use Rattle.lineup.specs.Lying.{Lies};
-ghost use Rattle.ranked.specs.ByTurns.{TurnTaken, TurnsTaken, fill_at, by_turns};
+ghost use Rattle.ranked.specs.ByTurns.{TurnTaken, TurnsTaken, by_turns};
 
 use lineup::lineup::Lineup;
+use orders::answer::counted;
 use orders::order::{Fill, Order};
 use orders::request::Side;
 use ranking::places::Places;
@@ -38,23 +39,6 @@ pub(crate) fn take_turn<L: Places<Record = Order>>(
     })
 }
 
-// A count in 32 bits, or the most that they hold.
-pub(crate) fn narrowed(n: usize) -> u32
-    ensures { result ≡ min n (2 ^ 32 - 1) }
-{
-    u32::try_from(n).unwrap_or(u32::MAX)
-}
-
-// The fill of an order that comes with one that rests, at the price of that one.
-fn fill_of(taker: &Order, resting: &Order, tonnes: u32) -> Fill
-    ensures { result ≡ fill_at taker.now.side taker.now resting.now tonnes }
-{
-    match taker.side {
-        Side::Buy => Fill::between(taker, resting, resting.price, tonnes),
-        Side::Sell => Fill::between(resting, taker, resting.price, tonnes),
-    }
-}
-
 // Deals n tonnes of an order with the best orders of the other side, in turn: how many fills it wrote.
 pub(crate) fn deal<L: Places<Record = Order>>(
     lineup: &mut Lineup<L>,
@@ -70,13 +54,13 @@ pub(crate) fn deal<L: Places<Record = Order>>(
     let mut left = n;
     for (count, place) in fills[..capacity].iter_mut().enumerate() {
         if left == 0 {
-            return narrowed(count);
+            return counted(count);
         }
         let Some(turn) = take_turn(lineup, taker.side.opposite(), left) else {
-            return narrowed(count)
+            return counted(count)
         };
-        *place = fill_of(taker, &turn.order, turn.tonnes);
+        *place = Fill::taken(taker, &turn.order, turn.tonnes);
         left -= turn.tonnes;
     }
-    narrowed(capacity)
+    counted(capacity)
 }

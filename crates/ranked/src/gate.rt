@@ -1,7 +1,7 @@
 ghost use Rattle.std.specs.Prelude.{◌≡◌, ◌+◌, ◌-◌, ◌^◌, ◌<◌, ◌≤◌, min, IfOk, MatchResult, None, Some};
 ghost use Rattle.orders.specs.declared.request.Request.TheVariants.{Enter};
 ghost use Rattle.plain.specs.Book.{Book, reach as reachOf};
-ghost use Rattle.plain.specs.Gate.{early as isEarly, unreached as isUnreached, refused_by};
+ghost use Rattle.plain.specs.Gate.{unreached as isUnreached, refused_by};
 ghost use Rattle.lineup.specs.Lying.{Lies};
 
 use lineup::lineup::Lineup;
@@ -15,15 +15,6 @@ pub(crate) fn reach<L: Places<Record = Order>>(lineup: &Lineup<L>, entry: &Entry
     ensures { (b : Book) → Lies (L.Places.contents lineup.now.mirrored.list) lineup.now.state b → result ≡ min (reachOf entry.now b) (2 ^ 32 - 1) }
 {
     lineup.reach(entry.side(), entry.price())
-}
-
-fn early(phase: Phase, entry: &Entry) -> bool
-    ensures { result ≡ isEarly phase entry.now }
-{
-    match phase {
-        Phase::Dealing => false,
-        Phase::Gathering => entry.needs_dealing(),
-    }
 }
 
 fn unreached<L: Places<Record = Order>>(lineup: &Lineup<L>, entry: &Entry) -> bool
@@ -48,7 +39,7 @@ pub(crate) fn admit<L: Places<Record = Order>>(
     if room < state.capacity {
         return Err(Cause::FillListShort);
     }
-    if early(state.phase, entry) {
+    if entry.is_early(state.phase) {
         return Err(Cause::WrongPhase);
     }
     if state.capacity.saturating_sub(state.buys) <= state.sells {

@@ -1,4 +1,4 @@
-ghost use Rattle.std.specs.Prelude.{◌≡◌, min, true};
+ghost use Rattle.std.specs.Prelude.{◌≡◌, true};
 ghost use Rattle.shelf.specs.Entering.{Laid};
 ghost use Rattle.shelf.specs.HeldGate.{is_full};
 
@@ -17,11 +17,4 @@ pub fn lay<L: Places<Record = Order>>(list: &mut L, life: Life, o: Order)
             list.hold(i, o);
         }
     }
-}
-
-// A count as an answer has it: one past the largest number stays there.
-pub fn count_of(n: usize) -> u32
-    ensures { result ≡ min n 4294967295 }
-{
-    u32::try_from(n).unwrap_or(u32::MAX)
 }

@@ -6,11 +6,11 @@ ghost use Rattle.shelf.specs.Stands.{ShelfStands, Handles, shelf_setup};
 
 mod gate;
 
-use crate::entering::{count_of, lay};
+use crate::entering::lay;
 use matching::dealing::{deal_call, deal_entry};
 use matching::quote::best_quote;
 use matching::scan::{numbered, with_ahead};
-use orders::answer::{Answer, Called, Entered, Withdrawn};
+use orders::answer::{Answer, Called, Entered, Withdrawn, counted};
 use orders::cancel::Cancel;
 use orders::entry::Entry;
 use orders::order::{Fill, Order, Phase};
@@ -104,7 +104,7 @@ impl<L: Places<Record = Order>, R: Priority> Shelf<L, R> {
         lay(&mut self.list, e.life(), rest);
         self.next = number + 1;
         self.is_new = false;
-        let entered = Entered::of(e, number, count_of(tally.count), tally.left);
+        let entered = Entered::of(e, number, counted(tally.count), tally.left);
         Ok(Answer::Entered(entered))
     }
 
@@ -121,7 +121,7 @@ impl<L: Places<Record = Order>, R: Priority> Shelf<L, R> {
         Ok(Answer::Called(Called {
             price,
             volume: best.volume,
-            fills: count_of(tally.count),
+            fills: counted(tally.count),
         }))
     }
 

@@ -1,16 +1,19 @@
 ghost use Rattle.std.specs.Prelude.{◌≡◌};
-ghost use Rattle.orders.specs.Entries.{order, needs_dealing};
+ghost use Rattle.orders.specs.Entries.{order, early};
 
 use crate::entry::Entry;
-use crate::order::Order;
+use crate::order::{Order, Phase};
 
 // What an entry asks for, and the order that it enters.
 impl Entry {
-    // Whether it asks for what only dealing has: a minimum, or to be killed.
-    pub fn needs_dealing(&self) -> bool
-        ensures { result ≡ needs_dealing self.now }
+    // Whether it comes too early: it states a minimum or is to be killed, and nothing deals yet.
+    pub fn is_early(&self, phase: Phase) -> bool
+        ensures { result ≡ early phase self.now }
     {
-        self.minimum > 0 || !self.life.rests()
+        match phase {
+            Phase::Gathering => self.minimum > 0 || !self.life.rests(),
+            Phase::Dealing => false,
+        }
     }
 
     // The order that it enters under a number, all of it remaining.

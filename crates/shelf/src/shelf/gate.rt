@@ -1,5 +1,4 @@
 ghost use Rattle.std.specs.Prelude.{◌≡◌, MatchResult, Some, None};
-ghost use Rattle.plain.specs.Gate.{early};
 ghost use Rattle.shelf.specs.HeldGate.{is_full, falls_short, entry_refusal, call_refusal};
 
 use crate::shelf::Shelf;
@@ -18,13 +17,6 @@ impl<L: Places<Record = Order>, R: Priority> Shelf<L, R> {
         vacant(&self.list).is_none()
     }
 
-    // Whether an entry asks for what only dealing has, and nothing deals yet.
-    fn is_early(&self, e: &Entry) -> bool
-        ensures { result ≡ early self.now.phase e.now }
-    {
-        self.phase == Phase::Gathering && e.needs_dealing()
-    }
-
     // Whether an entry finds less than its minimum.
     fn falls_short(&self, e: &Entry) -> bool
         ensures { result ≡ falls_short self.now.phase e.now (L.Places.contents self.now.list) }
@@ -39,7 +31,7 @@ impl<L: Places<Record = Order>, R: Priority> Shelf<L, R> {
     {
         if room < self.list.len() {
             Err(Cause::FillListShort)
-        } else if self.is_early(e) {
+        } else if e.is_early(self.phase) {
             Err(Cause::WrongPhase)
         } else if self.is_full() {
             Err(Cause::BookFull)

@@ -17,7 +17,7 @@ returns-then-left-eq0 g c = record {
   dealt = λ rule b l sound bought sold few.
       let calling = c.loop-count.invariant.1 rule b l sound bought sold in
       let used = calling_used _ b _ _ _ _ _ _ _ calling c.if-left-eq0.true in
-      let same : c.narrowed.result ≡ c.loop-count.count = omega (arith, c.narrowed.ensures, l.small, few, used.1) in
+      let same : c.counted.result ≡ c.loop-count.count = omega (arith, c.counted.ensures, l.small, few, used.1) in
       rw (set-get_or, same) (crossed_so few c.requires used);
 }
 
@@ -34,6 +34,6 @@ returns g c = record {
       let long = length-take-le c.args.lineup.now.state.capacity c.args.fills.now c.requires in
       let on = calling_on _ b _ _ _ _ _ _ _ calling in
       let used = calling_used _ b _ _ _ _ _ _ _ calling (none_left _ (λ some. omega (arith, (on some).1, few, c.loop-count-test.false, long))) in
-      let same : c.narrowed-2.result ≡ c.loop-count.count = omega (arith, c.narrowed-2.ensures, l.small, few, used.1, c.loop-count-test.false, c.loop-count.auto.count-end, long) in
+      let same : c.counted-2.result ≡ c.loop-count.count = omega (arith, c.counted-2.ensures, l.small, few, used.1, c.loop-count-test.false, c.loop-count.auto.count-end, long) in
       rw same (crossed_so few c.requires used);
 }

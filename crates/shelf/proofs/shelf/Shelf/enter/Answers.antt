@@ -36,5 +36,5 @@ returns g c =
       same = record { same_rule = refl; same_places = laid.same_length ∙ now_length rule phase o ps lent qs list r dealt };
       served = λ t s.
           entry_dealt t s e lent list (search rules) qs r dealt rs (Entered c.of-entered.result) laid
-          (ap (λ a. Entered a) c.of-entered.ensures ∙ ap (λ k. entry_answer e next k r.left) c.count_of.ensures);
+          (ap (λ a. Entered a) c.of-entered.ensures ∙ ap (λ k. entry_answer e next k r.left) c.counted.ensures);
     }
