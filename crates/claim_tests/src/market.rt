@@ -33,7 +33,11 @@ pub fn opened<L: Places<Record = Order> + Drop, B: Book<L, Time>>(list: L) -> Re
 // Sends rows that must be admitted.
 pub fn send_all<V: Venue>(rt: &impl Abort, venue: &mut V, rows: &[Row]) -> Result<(), Fail> {
     for row in rows {
-        assert!(rt; venue.serve(Request::try_from(row)?, &mut [Fill::BLANK; 8]).is_ok());
+        assert!(rt;
+            venue
+                .serve(Request::try_from(row)?, &mut [Fill::BLANK; 8])
+                .is_ok()
+        );
     }
     Ok(())
 }

@@ -66,7 +66,11 @@ fn refusals<V: Venue>(rt: &impl Abort, venue: &mut V) -> Result<(), Fail> {
         "held 300 of 1,000, and 700 more"
     );
     assert_eq!(rt; refusal(venue, &cancel(1, 1))?, None);
-    assert_eq!(rt; refusal(venue, &cancel(1, 1))?, Some((12, Some(0))), "a cancel twice");
+    assert_eq!(rt;
+        refusal(venue, &cancel(1, 1))?,
+        Some((12, Some(0))),
+        "a cancel twice"
+    );
     assert_eq!(rt; refusal(venue, &buy(1, 1))?, None, "price 1");
     assert_eq!(rt; refusal(venue, &sell(100000, 1))?, None, "price 100,000");
     Ok(())

@@ -22,14 +22,20 @@ fn read_all(file: &[u8]) -> Outcome {
 
 // A file comes to so many records, and is then ended by no refusal.
 fn is_whole(rt: &impl Abort, what: &str, file: &[u8], records: usize) {
-    let Outcome { records: read, fault } = read_all(file);
+    let Outcome {
+        records: read,
+        fault,
+    } = read_all(file);
     assert_eq!(rt; read, records, "{what}");
     assert!(rt; fault.is_none(), "{what}");
 }
 
 // A file comes to so many records, and is then ended by the refusal of a number, at an offset.
 fn comes_to(rt: &impl Abort, what: &str, file: &[u8], records: usize, refusal: u8, offset: usize) {
-    let Outcome { records: read, fault } = read_all(file);
+    let Outcome {
+        records: read,
+        fault,
+    } = read_all(file);
     assert_eq!(rt; read, records, "{what}");
     let ended = fault.map(|fault| (fault.cause.number(), fault.offset));
     assert_eq!(rt; ended, Some((refusal, offset)), "{what}");

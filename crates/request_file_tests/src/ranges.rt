@@ -23,7 +23,11 @@ fn members(rt: HostRuntime) {
     assert_eq!(rt; entry(0, 1, 1, 1, 1, 0), None);
     assert_eq!(rt; entry(63, 2, 2, 100000, 50000, 50000), None);
     assert_eq!(rt; entry(64, 1, 1, 1, 1, 0), Some(5));
-    assert_eq!(rt; entry(255, 0, 0, 0, 0, 1), Some(5), "the member comes first");
+    assert_eq!(rt;
+        entry(255, 0, 0, 0, 0, 1),
+        Some(5),
+        "the member comes first"
+    );
 }
 
 #[test]

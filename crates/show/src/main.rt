@@ -41,8 +41,5 @@ fn show_record(rt: &impl Print, line: usize, located: &Located) -> io::Result<()
 }
 
 fn show_refusal(rt: &impl Print, line: usize, offset: usize, cause: Cause) -> io::Result<()> {
-    println!(rt;
-        "{line} at {offset} refused {} {cause}",
-        cause.number()
-    )
+    println!(rt; "{line} at {offset} refused {} {cause}", cause.number())
 }
