@@ -9,7 +9,6 @@ use Rattle.orders.specs.declared.order.Phase.TheVariants.{Gathering, Dealing}
 use Rattle.orders.specs.Entries.{taken}
 use Rattle.plain.specs.Rule.{Rule, with_remaining}
 use Rattle.plain.specs.Dealing.{fill}
-use Rattle.plain.specs.Book.{resting_price}
 use Rattle.ranking.specs.Search.{FirstIn}
 use Rattle.matching.specs.declared.dealing.Deal.{Deal}
 use Rattle.matching.specs.declared.dealing.Tally.{Tally}
