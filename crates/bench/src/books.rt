@@ -126,7 +126,7 @@ fn opened<L: Places<Record = Order> + Drop, B: Book<L, Time>>(list: L) -> anyhow
     }
 }
 
-// A round on a fresh book over a list.
+// A round on a fresh book over a list. A switch, since each arm runs at a type of its own.
 fn list_round<L: Places<Record = Order> + Drop>(
     rt: &HostRuntime,
     setting: Setting,

@@ -126,7 +126,7 @@ impl<P, V> Layer<P, V> {
     }
 }
 
-// A venue that was refused its layer, and why.
+// A venue that was refused its layer, and why. A type of its own beside what a book hands back, since the fields name what it is.
 #[derive(Drop)]
 pub struct Refused<V> {
     pub cause: Cause,

@@ -26,6 +26,7 @@ fn answer_line(count: usize, answer: &Answer) -> Line
 }
 
 // Adds a line for each of so many fills from the front of a list.
+// The count of a record is an argument beside the lines here and below: it is another for each record.
 fn push_fills(lines: &mut Vec<Line>, fills: &[Fill], count: usize) -> Result<(), AllocError>
     ensures { OnOk result (lines.new.items ≡ lines.old.items ++ map Filled (take count fills.now)) }
 {

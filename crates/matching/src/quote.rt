@@ -8,6 +8,8 @@ use quotes::quote::Quote;
 use quotes::step::step_of;
 use ranking::places::{Places, each};
 
+// What a call would deal at a price. In `replay` are its like over lists of orders: what the two share is in `quotes`, and what is left
+// says only what is summed.
 fn quote_at<L: Places<Record = Order>>(list: &L, price: u32) -> Quote
     ensures { result ≡ quote_at (L.contents list.now) price }
 {

@@ -27,6 +27,7 @@ pub enum Cause {
 }
 
 impl Cause {
+    // By a method and not by `From`, since what the number is stands in its name.
     pub fn number(self) -> u8
         ensures { result ≡ cause_number self }
     {

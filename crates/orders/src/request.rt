@@ -26,6 +26,7 @@ impl Side {
         }
     }
 
+    // By a method and not by `From`, since what the number is stands in its name.
     pub fn number(self) -> u8
         ensures { result ≡ side_number self }
     {
@@ -74,6 +75,7 @@ pub enum Life {
 }
 
 impl Life {
+    // By a method and not by `From`, as a side's.
     pub fn number(self) -> u8
         ensures { result ≡ life_number self }
     {

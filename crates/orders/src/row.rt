@@ -1,4 +1,4 @@
-// An entry as plain numbers, in any range.
+// An entry as plain numbers, in any range: its side and its life too, since nothing of a row is checked yet.
 #[derive(Clone, Copy)]
 pub struct EntryRow {
     pub member: u8,

@@ -12,7 +12,7 @@ use venue::step::Step;
 
 // A kind of book, whatever list of places it is over: what a day's pile can be run on.
 pub trait Kind {
-    // Runs steps through the day's pile over a fresh book of the kind.
+    // Runs steps through the day's pile over a fresh book of the kind. List, rule and steps are three things of three owners.
     fn run<L: Places<Record = Order> + Drop, R: Priority + Drop>(
         &self,
         list: L,
@@ -30,6 +30,7 @@ pub struct OnShelf;
 #[derive(Clone, Copy)]
 pub struct OnRanked;
 
+// Two impls that differ in a type: one for both would need a kind to be a type that takes types.
 impl Kind for OnShelf {
     fn run<L: Places<Record = Order> + Drop, R: Priority + Drop>(
         &self,

@@ -22,9 +22,8 @@ impl<L: Places<Record = Order>, R: Priority> Ranked<L, R> {
         if fills.len() < self.lineup.state.capacity {
             return Err(Cause::FillListShort);
         }
-        match self.lineup.state.phase {
-            Phase::Dealing => return Err(Cause::WrongPhase),
-            Phase::Gathering => {}
+        if self.lineup.state.phase == Phase::Dealing {
+            return Err(Cause::WrongPhase);
         }
         self.rule.is_lawful();
         let quote = self.lineup.quote();

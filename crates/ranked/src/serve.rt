@@ -58,11 +58,7 @@ impl<L: Places<Record = Order>, R: Priority> Venue for Ranked<L, R> {
     }
 
     fn next_number(&self) -> Option<u32> {
-        if self.lineup.state.next <= 999999 {
-            Some(self.lineup.state.next)
-        } else {
-            None
-        }
+        (self.lineup.state.next <= 999999).then_some(self.lineup.state.next)
     }
 
     fn is_fresh(&self) -> bool {

@@ -3,7 +3,7 @@ ghost use Rattle.replay.specs.Agreeing.{entry_agrees, call_agrees};
 
 use crate::fills::{Terms, is_dealt};
 use crate::lists::{retain_within, tonnes_within};
-use crate::quote::best_quote;
+use crate::quote::Sides;
 use orders::entry::Entry;
 use orders::order::{Fill, Order};
 use orders::request::Side;
@@ -39,7 +39,7 @@ pub fn call_agrees(
 ) -> bool
     ensures { result ≡ call_agrees price volume buys.old sells.old fills.now }
 {
-    let best = best_quote(buys, sells);
+    let best = Sides { buys, sells }.best_quote();
     if price != best.called_price() || volume != best.volume {
         return false;
     }

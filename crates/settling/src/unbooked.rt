@@ -2,6 +2,7 @@ use orders::refusal::Cause;
 use std::fmt;
 
 // Why a claim was not booked: its check failed, or a total of the ledger would be too large.
+// No `From` makes one, since both hold a cause.
 #[derive(Clone, Copy)]
 pub enum Unbooked {
     Failed(Cause),
