@@ -31,7 +31,7 @@ impl State {
     }
 
     // How many orders of a side rest.
-    pub(crate) fn count(&self, side: Side) -> usize
+    pub fn count(&self, side: Side) -> usize
         ensures { (result ≡ count side self.now) × (result ≤ self.now.buys + self.now.sells) }
     {
         match side {
@@ -48,7 +48,7 @@ impl State {
     }
 
     // Keeps another count of a side.
-    pub(crate) fn recount(&mut self, side: Side, n: usize)
+    pub fn recount(&mut self, side: Side, n: usize)
         ensures { Recounted side n self.old self.new }
     {
         match side {
