@@ -85,7 +85,7 @@ struct Sent<'a> {
     measured: &'a [Request],
 }
 
-// A round on a fresh venue.
+// A round on a fresh venue. The fill list is lent beside what is sent, since it is written.
 fn serve_round<V: Venue + Drop>(
     rt: &HostRuntime,
     mut venue: V,

@@ -48,6 +48,7 @@ const NO_ORDER: Order = Order {
 // and the orders in it are counted beside it.
 const MOST: usize = 1024;
 
+// Here and below the venue and the fills are two arguments: the one is asked, and the other held against what it answers.
 fn entry_holds<V: Venue>(venue: &V, entry: &Entry, number: u32, fills: &[Fill]) -> bool
     ensures { (t : Tape) → V.stands venue.now t → (book_at (V.setup venue.now) t).next ≡ number → Decides result (EntryMatches (V.setup venue.now).rule (book_at (V.setup venue.now) t) entry.now fills.now) }
 {

@@ -40,7 +40,7 @@ pub trait Part {
         ensures own { own self.new ≡ own self.old }
         ensures reserved { (rule : Rule) (t : Tape) → follows self.old rule t → Reserved (own self.old rule t request.now room) (λ h. holds self.new h rule t request.now) (follows self.new rule t) result };
 
-    // The request was admitted below.
+    // The request was admitted below, with this answer.
     fn admit(&mut self, hold: Self::Hold, request: &Request, answer: &Answer)
         ensures own { own self.new ≡ own self.old }
         ensures admitted { (rule : Rule) (t : Tape) → holds self.old hold rule t request.now → answer.now ≡ (reply rule (after rule t) request.now).answer → follows self.new rule (t ++ (request.now ∷ [])) };

@@ -45,7 +45,8 @@ impl<L: Places<Record = Order>> Lineup<L> {
         }
     }
 
-    // Puts an order in a place, as a side sees it.
+    // Puts an order in a place, as a side sees it. The side is told beside the order here and below: that an order is of the side
+    // that it rests on is known only of a sound book.
     pub(crate) fn hold(&mut self, side: Side, i: usize, order: Order)
         ensures wrote { seen side (L.Places.contents self.new.mirrored.list) ≡ slice_set (seen side (L.Places.contents self.old.mirrored.list)) i (Some order) }
         ensures kept { self.new.state ≡ self.old.state }

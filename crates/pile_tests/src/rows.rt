@@ -11,7 +11,7 @@ use std::test::*;
 use venue::book::Book;
 use venue::venue::Venue;
 
-// Member 1 buys and member 2 sells, to rest.
+// Member 1 buys and member 2 sells, to rest. Price and quantity are two numbers, as a row has them.
 pub fn buy(price: u32, quantity: u32) -> Row {
     entry(1, 1, price, quantity, 0)
 }

@@ -24,7 +24,7 @@ use shelf::shelf::Shelf;
 use std::alloc::{AllocError, Global};
 use venue::venue::Venue;
 
-// Settles records between the day's pile over one fresh book and over another.
+// Settles records between the day's pile over one fresh book and over another. The ledger is written, and the records are read.
 fn settle_between<V: Venue + Drop, W: Venue + Drop>(
     heap: Global,
     one: V,
