@@ -100,9 +100,8 @@ fn count_ahead<L: Places<Record = Order>, R: Priority>(list: &L, rule: &R, o: &O
     ensures { result ≡ held_weight (ahead_of (R.Ranking.ahead rule.now) o.now) (L.Places.contents list.now) }
 {
     let mut n: usize = 0;
-    // By index, since the proof that the count fits needs to know how many places there are.
-    for i in 0..list.len() {
-        n += one_ahead(rule, o, list.get(i));
+    for (_, place) in each_from(list, 0) {
+        n += one_ahead(rule, o, place);
     }
     n
 }
