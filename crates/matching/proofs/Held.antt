@@ -1,18 +1,9 @@
 -- What the orders held in places weigh. Assumes nothing.
-use Rattle.std.proofs.Common.{◌≡◌, ℕ, zero, suc, ◌+◌, ◌<◌, ◌≤◌, List, [], ◌∷◌, ◌++◌, length, get_or, replicate, take, set, refl, zero-le, arith, Option, None, Some}
-use Rattle.std.proofs.lemmas.List.{take_more}
+use Rattle.std.proofs.Common.{◌≡◌, ℕ, zero, suc, ◌+◌, ◌<◌, ◌≤◌, List, [], ◌∷◌, length, get_or, replicate, set, refl, zero-le, arith, Option, None, Some}
 use Rattle.orders.specs.declared.order.Order.{Order}
 use Rattle.matching.specs.Weights.{Weight, place_weight, held_weight}
 
 module _ (w : Weight) where
-  held_append : (ps qs : List (Option Order)) → held_weight w (ps ++ qs) ≡ held_weight w ps + held_weight w qs
-  held_append [] qs = omega arith
-  held_append (p ∷ ps) qs = omega (arith, held_append ps qs)
-
-  -- one more place
-  pub held_more : (ps : List (Option Order)) (i : ℕ) → i < length ps → held_weight w (take (i + 1) ps) ≡ held_weight w (take i ps) + place_weight w (get_or ps i None)
-  held_more ps i h = rw (take_more ps i None h) (omega (arith, held_append (take i ps) (get_or ps i None ∷ [])))
-
   -- a write
   pub held_set : (ps : List (Option Order)) (i : ℕ) (p : Option Order) → i < length ps →
       held_weight w (set ps i p) + place_weight w (get_or ps i None) ≡ held_weight w ps + place_weight w p

@@ -6,16 +6,15 @@ ghost use Rattle.matching.specs.Scans.{VacantIn, NumberedIn, opposite, tonnes_if
 use orders::order::Order;
 use orders::request::Side;
 use ranking::finding::{Test, first_where};
-use ranking::places::{Places, each};
+use ranking::places::{Places, each, each_from};
 use ranking::rank::Priority;
 
 // A vacant place, if there is one.
 pub fn vacant<L: Places<Record = Order>>(list: &L) -> Option<usize>
     ensures { VacantIn (L.contents list.now) (length (L.contents list.now)) result }
 {
-    // By index, since the place's index is the answer.
-    for i in 0..list.len() {
-        if list.get(i).is_none() {
+    for (i, place) in each_from(list, 0) {
+        if place.is_none() {
             return Some(i);
         }
     }
@@ -26,9 +25,8 @@ pub fn vacant<L: Places<Record = Order>>(list: &L) -> Option<usize>
 pub fn numbered<L: Places<Record = Order>>(list: &L, number: u32) -> Option<(usize, Order)>
     ensures { NumberedIn number (L.contents list.now) (length (L.contents list.now)) result }
 {
-    // By index, since the place's index is part of the answer.
-    for i in 0..list.len() {
-        if let Some(o) = list.get(i) {
+    for (i, place) in each_from(list, 0) {
+        if let Some(o) = place {
             if o.number == number {
                 return Some((i, o));
             }
@@ -102,9 +100,8 @@ fn count_ahead<L: Places<Record = Order>, R: Priority>(list: &L, rule: &R, o: &O
     ensures { result ≡ held_weight (ahead_of (R.Ranking.ahead rule.now) o.now) (L.Places.contents list.now) }
 {
     let mut n: usize = 0;
-    // By index, since the proof that the count fits needs to know how many places there are.
-    for i in 0..list.len() {
-        n += one_ahead(rule, o, list.get(i));
+    for (_, place) in each_from(list, 0) {
+        n += one_ahead(rule, o, place);
     }
     n
 }

@@ -6,7 +6,7 @@ use crate::line::Line;
 use ledger::row::Row;
 use ledger::standing::{Standing, rank_members};
 use ledger::totals::Ledger;
-use ranking::places::Places;
+use ranking::places::each_from;
 use settling::fault::Noted;
 use std::alloc::{AllocError, Global};
 
@@ -33,9 +33,8 @@ fn push_standing(lines: &mut Vec<Line>, ledger: &Ledger) -> Result<(), AllocErro
     ensures { OnOk result (StandingLines ledger.now.rows lines.old.items lines.new.items) }
 {
     let board = rank_members(ledger);
-    // By the place's count, which is the rank: to count what `each` gives would ask for a bound on the count.
-    for i in 0..board.len() {
-        push_place(lines, i + 1, board.get(i))?;
+    for (i, place) in each_from(&board, 0) {
+        push_place(lines, i + 1, place)?;
     }
     lines.push(Line::Total(ledger.sum()))?;
     Ok(())
