@@ -1,18 +1,19 @@
 -- An order looked for among those that lie in places. Assumes nothing.
 use Rattle.std.proofs.Common.{◌≡◌, ℕ, ◌+◌, ◌<◌, ◌≤◌, Bool, true, false, cond, eqb, List, [], ◌∷◌, ◌++◌, length, get_or, Some, None, Option, sym, refl, ap, ◌∙◌, append_assoc, append-nil, arith, length-append}
 use lib.ListN.{length-map}
-use Rattle.std.proofs.lemmas.List.{get_or_at, get_or_past, length_push, map-append}
+use Rattle.std.proofs.lemmas.List.{length_push, nil_from_length}
 use Rattle.std.proofs.lemmas.Bool.{cond-true, cond-false, eq-eqb}
 use Rattle.orders.specs.declared.order.Order.{Order}
 use Rattle.plain.specs.Orders.{find}
 use Rattle.lineup.specs.Layout.{held, Stood}
 
--- the orders before the place i are not of the number
-pub record Finding (n start i : ℕ) (os : List Order) : Type 0 where
+-- the orders before the place i are not of the number, and the others lie from there on
+pub record Finding (n start i : ℕ) (left : List (Option Order)) (os : List Order) : Type 0 where
   pub earlier : List Order
   pub rest : List Order
   pub are : os ≡ earlier ++ rest
-  pub lies : length earlier + start ≡ i
+  pub lie : left ≡ held rest
+  pub reaches : length earlier + start ≡ i
   pub not_earlier : find n earlier ≡ None
 
 none_here : (b : Bool) (x : Order) (r s t : Option Order) → (r ≡ None → s ≡ t) → cond b (Some x) r ≡ None → cond b (Some x) s ≡ t
@@ -23,58 +24,36 @@ pub find_append : (n : ℕ) (xs ys : List Order) → find n xs ≡ None → find
 find_append n [] ys e = refl
 find_append n (x ∷ xs) ys e = none_here (eqb x.number n) x (find n xs) (find n (xs ++ ys)) (find n ys) (find_append n xs ys) e
 
--- what lies at the place of an order
-pub held_at : (front : List (Option Order)) (earlier : List Order) (x : Order) (later : List Order) (i : ℕ) → length earlier + length front ≡ i →
-    get_or (front ++ held (earlier ++ x ∷ later)) i None ≡ Some x
-held_at front earlier x later i at =
-    let n : length (front ++ held earlier) ≡ i = simp (length-append, length-map) (omega arith) in
-    ap (λ v. get_or (front ++ v) i None) (map-append Some earlier (x ∷ later)) ∙
-    ap (λ v. get_or v i None) (sym (append_assoc front (held earlier) (Some x ∷ held later))) ∙
-    get_or_at (front ++ held earlier) (Some x) (held later) None i n
-
-module _ (n start i : ℕ) (front : List (Option Order)) (os : List Order) (places : List (Option Order)) (starts : length front ≡ start) (are : places ≡ front ++ held os) where
-  -- the length of the places, and what lies at i, where the orders are split there
-  all_of : (earlier rest : List Order) → os ≡ earlier ++ rest → length places ≡ start + (length earlier + length rest)
-  all_of earlier rest is = ap length are ∙ ap (λ v. length (front ++ held v)) is ∙ simp (length-append, length-map, starts)
-
-  here : (earlier : List Order) (x : Order) (later : List Order) → os ≡ earlier ++ x ∷ later → length earlier + start ≡ i → get_or places i None ≡ Some x
-  here earlier x later is at = ap (λ v. get_or v i None) are ∙ ap (λ v. get_or (front ++ held v) i None) is ∙ held_at front earlier x later i (omega arith)
-
-  more : (earlier rest : List Order) → os ≡ earlier ++ rest → length earlier + start ≡ i → find n earlier ≡ None → i < length places →
-      ((x : Order) → get_or places i None ≡ Some x → eqb x.number n ≡ false) → Finding n start (i + 1) os
-  more earlier [] is at none l not = let m = all_of earlier [] is in absurd (omega arith)
-  more earlier (x ∷ later) is at none l not = record {
+module _ (n start i : ℕ) (place : Option Order) (left : List (Option Order)) (os : List Order) where
+  more : (earlier rest : List Order) → os ≡ earlier ++ rest → place ∷ left ≡ held rest → length earlier + start ≡ i → find n earlier ≡ None →
+      ((x : Order) → place ≡ Some x → eqb x.number n ≡ false) → Finding n start (i + 1) left os
+  more earlier [] are lie reaches none not = let m = ap length lie in absurd (omega arith)
+  more earlier (x ∷ later) are lie reaches none not = record {
     earlier = earlier ++ x ∷ [];
     rest = later;
-    are = is ∙ sym (append_assoc earlier (x ∷ []) later);
-    lies = let p = length_push earlier x in omega arith;
-    not_earlier = find_append n earlier (x ∷ []) none ∙ cond-false (eqb x.number n) (Some x) None (not x (here earlier x later is at));
+    are = are ∙ sym (append_assoc earlier (x ∷ []) later);
+    lie = cc;
+    reaches = let p = length_push earlier x in omega arith;
+    not_earlier = find_append n earlier (x ∷ []) none ∙ cond-false (eqb x.number n) (Some x) None (not x (cc));
   }
 
-  pub finding_more : Finding n start i os → i < length places → ((x : Order) → get_or places i None ≡ Some x → eqb x.number n ≡ false) → Finding n start (i + 1) os
-  finding_more f = more f.earlier f.rest f.are f.lies f.not_earlier
+  pub finding_more : (all : List (Option Order)) (j : ℕ) → Finding n start i all os → all ≡ place ∷ left → j ≡ i + 1 → ((x : Order) → place ≡ Some x → eqb x.number n ≡ false) → Finding n start j left os
+  finding_more all j f are next not = rw next (more f.earlier f.rest f.are (sym are ∙ f.lie) f.reaches f.not_earlier not)
 
-  one : (o : Order) (earlier rest : List Order) → os ≡ earlier ++ rest → length earlier + start ≡ i → find n earlier ≡ None →
-      get_or places i None ≡ Some o → o.number ≡ n → Stood n start os i o
-  one o earlier [] is at none there same =
-      let m = all_of earlier [] is in
-      let p = get_or_past places i None (omega arith) in
-      let z : ◌≡◌ {A = ℕ} 0 1 = cc in
-      absurd (omega arith)
-  one o earlier (x ∷ later) is at none there same =
-      let h = here earlier x later is at in
+  one : (o : Order) (earlier rest : List Order) → os ≡ earlier ++ rest → place ∷ left ≡ held rest → length earlier + start ≡ i → find n earlier ≡ None →
+      place ≡ Some o → o.number ≡ n → Stood n start os i o
+  one o earlier [] are lie reaches none there same = let m = ap length lie in absurd (omega arith)
+  one o earlier (x ∷ later) are lie reaches none there same =
       let x_is : x ≡ o = cc in
-      record { earlier = earlier; later = later; are = is ∙ ap (λ z. earlier ++ z ∷ later) x_is; lies = at; numbered = same; not_earlier = none }
+      record { earlier = earlier; later = later; are = are ∙ ap (λ z. earlier ++ z ∷ later) x_is; lies = reaches; numbered = same; not_earlier = none }
 
-  pub finding_one : (o : Order) → Finding n start i os → get_or places i None ≡ Some o → o.number ≡ n → Stood n start os i o
-  finding_one o f = one o f.earlier f.rest f.are f.lies f.not_earlier
+  pub finding_one : (o : Order) (all : List (Option Order)) → Finding n start i all os → all ≡ place ∷ left → place ≡ Some o → o.number ≡ n → Stood n start os i o
+  finding_one o all f are = one o f.earlier f.rest f.are (sym are ∙ f.lie) f.reaches f.not_earlier
 
-  all : (earlier rest : List Order) → os ≡ earlier ++ rest → length earlier + start ≡ i → find n earlier ≡ None → length places ≤ i → find n os ≡ None
-  all earlier [] is at none l = ap (find n) (is ∙ append-nil earlier) ∙ none
-  all earlier (x ∷ later) is at none l = let m = all_of earlier (x ∷ later) is in absurd (omega arith)
-
-  pub finding_all : Finding n start i os → length places ≤ i → find n os ≡ None
-  finding_all f = all f.earlier f.rest f.are f.lies f.not_earlier
+pub finding_all : (n start i : ℕ) (os : List Order) → Finding n start i [] os → find n os ≡ None
+finding_all n start i os f =
+    let m : 0 ≡ length f.rest = ap length f.lie ∙ simp length-map in
+    ap (find n) (f.are ∙ ap (λ v. f.earlier ++ v) (nil_from_length f.rest (omega arith)) ∙ append-nil f.earlier) ∙ f.not_earlier
 
 -- the order that stands in a list is the first of its number there, whatever follows
 pub stood_first : (n start : ℕ) (os : List Order) (i : ℕ) (o : Order) → Stood n start os i o → (ys : List Order) → find n (os ++ ys) ≡ Some o

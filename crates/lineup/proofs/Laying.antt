@@ -1,8 +1,8 @@
 -- How the orders of a plain book lie, as either side sees them. Assumes nothing.
-use Rattle.std.proofs.Common.{◌≡◌, ℕ, zero, suc, ◌+◌, ◌-◌, List, [], ◌∷◌, ◌++◌, reverse, length, replicate, sym, refl, ap, ◌∙◌, append_assoc, add-one, arith, length-append, Option, None}
+use Rattle.std.proofs.Common.{◌≡◌, ℕ, zero, suc, ◌+◌, ◌-◌, List, [], ◌∷◌, ◌++◌, reverse, length, drop, replicate, sym, refl, ap, ◌∙◌, append_assoc, add-one, arith, length-append, Option, None}
 use mathlib.Core.List.{reverse-cons}
 use lib.ListN.{length-map, length-reverse, length-replicate}
-use Rattle.std.proofs.lemmas.List.{reverse-append, reverse-reverse, replicate_more}
+use Rattle.std.proofs.lemmas.List.{drop_at, reverse-append, reverse-reverse, replicate_more}
 use Rattle.orders.specs.declared.request.Side.{Side}
 use Rattle.orders.specs.declared.request.Side.TheVariants.{Buy, Sell}
 use Rattle.orders.specs.declared.order.Order.{Order}
@@ -83,6 +83,12 @@ module _ (places : List (Option Order)) (s : State) (b : Book) (l : Lies places 
       let d = l.counts (other t) in
       let g = gap_left t in
       omega arith
+
+  -- what lies from a side's first place on
+  pub own_from : (t : Side) (start : ℕ) → start ≡ s.capacity - count t s → drop start (seen t places) ≡ held (side t b)
+  own_from t start is =
+      let starts = starts_at t in
+      ap (drop start) (own_after t) ∙ drop_at (before l.gap (side (other t) b)) (held (side t b)) start (omega arith)
 
 -- a book whose places, count and orders changed on one side
 pub changed : (t : Side) (places places' : List (Option Order)) (s s' : State) (b b' : Book) (l : Lies places s b) (gap : ℕ) →

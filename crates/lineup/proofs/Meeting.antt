@@ -41,70 +41,41 @@ module _ (places : List (Option Order)) (s : State) (b : Book) (l : Lies places 
   pub buys_few : (below above : List Order) → reverse b.buys ≡ below ++ above → length below + length above ≡ s.buys
   buys_few below above are = sym (length-append below above) ∙ ap length (sym are) ∙ length-reverse b.buys ∙ sym (l.counts Buy)
 
-  -- the sells lie after the gap, the lowest first
-  pub sell_at : (sold : List Order) (y : Order) (later : List Order) (i : ℕ) → b.sells ≡ sold ++ y ∷ later → length sold + (s.capacity - s.sells) ≡ i → get_or places i None ≡ Some y
-  sell_at sold y later i are at =
-      let front = before l.gap b.buys in
-      let n = s.capacity - s.sells in
-      let k : i - n ≡ length sold = omega arith in
-      ap (λ v. get_or v i None) (own_after places s b l Sell ∙ ap (λ os. front ++ held os) are) ∙
-      get_or-append_right front (held (sold ++ y ∷ later)) n i None (starts_at places s b l Sell) (omega arith) ∙
-      ap (λ j. get_or (held (sold ++ y ∷ later)) j None) k ∙
-      ap (λ v. get_or v (length sold) None) (map-append Some sold (y ∷ later)) ∙
-      get_or_at (held sold) (Some y) (held later) None (length sold) (simp length-map)
-
--- a sweep that has passed the sells up to a place
-pub record SweptTo (b : Book) (start i : ℕ) (w : Sweep) : Type 0 where
+-- a sweep before the sells that lie in the rest of the places
+pub record SweptTo (b : Book) (rest : List (Option Order)) (w : Sweep) : Type 0 where
   pub sold : List Order
   pub unsold : List Order
-  pub reaches : length sold + start ≡ i
-  pub sells_are : b.sells ≡ sold ++ unsold
+  pub lie : rest ≡ held unsold
   pub swept : SweptBy b sold unsold w
 
-module _ (places : List (Option Order)) (s : State) (b : Book) (l : Lies places s b) where
-  pub swept_to_none : (rule : Rule) → Lawful rule → Sound rule b → (bought : ℕ) → bought ≡ min (demand b.buys b.sells 1) (2 ^ 32 - 1) → SweptTo b (s.capacity - s.sells) (s.capacity - s.sells) (sweep_from s.buys bought)
-  swept_to_none rule lawful sound bought is =
-      let buys = l.counts Buy in
-      let sells = l.counts Sell in
-      let few = gap_left places s b l Sell in
-      let small = l.small in
-      record {
-        sold = [];
-        unsold = b.sells;
-        reaches = omega arith;
-        sells_are = refl;
-        swept = record { below = []; above = reverse b.buys; swept = swept_none rule lawful b sound (omega arith) (omega arith) s.buys bought buys is };
-      }
+pub swept_to_none : (places : List (Option Order)) (s : State) (b : Book) → Lies places s b → (rule : Rule) → Lawful rule → Sound rule b → (bought : ℕ) → bought ≡ min (demand b.buys b.sells 1) (2 ^ 32 - 1) →
+    (rest : List (Option Order)) → rest ≡ held b.sells → SweptTo b rest (sweep_from s.buys bought)
+swept_to_none places s b l rule lawful sound bought is rest lie =
+    let buys = l.counts Buy in
+    let sells = l.counts Sell in
+    let few = gap_left places s b l Sell in
+    let small = l.small in
+    record {
+      sold = [];
+      unsold = b.sells;
+      lie = lie;
+      swept = record { below = []; above = reverse b.buys; swept = swept_none rule lawful b sound (omega arith) (omega arith) s.buys bought buys is };
+    }
 
-  module _ (i : ℕ) (w : Sweep) where
-    passed : (w' : Sweep) (sold unsold : List Order) → length sold + (s.capacity - s.sells) ≡ i → b.sells ≡ sold ++ unsold → SweptBy b sold unsold w → i < s.capacity →
-        ((y : Order) (later : List Order) → get_or places i None ≡ Some y → SweptBy b sold (y ∷ later) w → SweptBy b (sold ++ y ∷ []) later w') → SweptTo b (s.capacity - s.sells) (i + 1) w'
-    passed w' sold [] reaches are swept h pass =
-        let n = ap length are ∙ length-append sold [] in
-        let sells = l.counts Sell in
-        let few = gap_left places s b l Sell in
-        absurd (omega arith)
-    passed w' sold (y ∷ later) reaches are swept h pass =
-        let push = length_push sold y in
-        record {
-          sold = sold ++ y ∷ [];
-          unsold = later;
-          reaches = omega arith;
-          sells_are = are ∙ sym (append_assoc sold (y ∷ []) later);
-          swept = pass y later (sell_at places s b l sold y later i are reaches) swept;
-        }
+module _ (b : Book) (place : Option Order) (rest : List (Option Order)) (w w' : Sweep) where
+  passed : (sold unsold : List Order) → place ∷ rest ≡ held unsold → SweptBy b sold unsold w →
+      ((y : Order) (later : List Order) → place ≡ Some y → SweptBy b sold (y ∷ later) w → SweptBy b (sold ++ y ∷ []) later w') → SweptTo b rest w'
+  passed sold [] lie swept pass = let n = ap length lie in absurd (omega arith)
+  passed sold (y ∷ later) lie swept pass = record { sold = sold ++ y ∷ []; unsold = later; lie = cc; swept = pass y later (cc) swept }
 
-    pub swept_to_more : (t : SweptTo b (s.capacity - s.sells) i w) → i < s.capacity → (w' : Sweep) →
-        ((y : Order) (later : List Order) → get_or places i None ≡ Some y → SweptBy b t.sold (y ∷ later) w → SweptBy b (t.sold ++ y ∷ []) later w') → SweptTo b (s.capacity - s.sells) (i + 1) w'
-    swept_to_more t h w' pass = passed w' t.sold t.unsold t.reaches t.sells_are t.swept h pass
+  pub swept_to_more : (all : List (Option Order)) (t : SweptTo b all w) → all ≡ place ∷ rest →
+      ((y : Order) (later : List Order) → place ≡ Some y → SweptBy b t.sold (y ∷ later) w → SweptBy b (t.sold ++ y ∷ []) later w') → SweptTo b rest w'
+  swept_to_more all t are = passed t.sold t.unsold (sym are ∙ t.lie) t.swept
 
-    pub swept_to_all : (t : SweptTo b (s.capacity - s.sells) i w) → s.capacity ≤ i → t.unsold ≡ []
-    swept_to_all t h =
-        let n = ap length t.sells_are ∙ length-append t.sold t.unsold in
-        let sells = l.counts Sell in
-        let at = t.reaches in
-        let few = gap_left places s b l Sell in
-        nil_from_length t.unsold (omega arith)
+pub swept_to_all : (b : Book) (rest : List (Option Order)) (w : Sweep) (t : SweptTo b rest w) → rest ≡ [] → t.unsold ≡ []
+swept_to_all b rest w t e =
+    let n : 0 ≡ length t.unsold = ap length (sym e ∙ t.lie) ∙ simp length-map in
+    nil_from_length t.unsold (omega arith)
 
 pub vacant_holds : {P : Type 0} {x : Order} → None ≡ Some x → P
 vacant_holds e = let z : ◌≡◌ {A = ℕ} 0 1 = cc in absurd (omega arith)

@@ -13,7 +13,7 @@ use crate::sweep::Sweep;
 use orders::order::Order;
 use orders::request::Side;
 use quotes::quote::Quote;
-use ranking::places::Places;
+use ranking::places::{Places, each_from};
 
 impl<L: Places<Record = Order>> Lineup<L> {
     // The lowest buy that is left, if its price is below the limit.
@@ -61,9 +61,8 @@ impl<L: Places<Record = Order>> Lineup<L> {
             supply: 0,
             best: Quote::NONE,
         };
-        // The loop counts, since it goes through a part of the places.
-        for i in self.state.start(Side::Sell)..self.state.capacity {
-            sweep = self.pass_place(sweep, self.get(Side::Sell, i));
+        for (_, place) in each_from(&self.mirrored.list, self.state.start(Side::Sell)) {
+            sweep = self.pass_place(sweep, place);
         }
         self.pass_buys(sweep, 100000).quote()
     }

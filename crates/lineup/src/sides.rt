@@ -1,19 +1,33 @@
-ghost use Rattle.std.specs.Prelude.{◌≡◌, ◌+◌, ◌-◌, ◌<◌, List, ◌∷◌, ◌++◌, length};
+ghost use Rattle.std.specs.Prelude.{◌≡◌, ◌+◌, ◌-◌, ◌<◌, ◌≤◌, List, ◌∷◌, ◌++◌, length, drop};
 ghost use Rattle.orders.specs.declared.order.Order.{Order};
 ghost use Rattle.plain.specs.Rule.{with_remaining};
 ghost use Rattle.plain.specs.Orders.{other};
 ghost use Rattle.plain.specs.Book.{Book, put as put_in, side as side_of};
 ghost use Rattle.venue.specs.Questions.{ranked};
-ghost use Rattle.lineup.specs.Layout.{Found};
+ghost use Rattle.lineup.specs.Layout.{held, Found};
 ghost use Rattle.lineup.specs.Lying.{Lies, Recounted, FoundIn, count};
 
 use crate::lineup::Lineup;
 use crate::state::Spot;
 use orders::order::Order;
 use orders::request::Side;
-use ranking::places::Places;
+use ranking::places::{Places, each_from};
 use ranking::rank::{Priority, Ranking};
 use ranking::sequence::insertion_keeps_sequence;
+
+// The order of a number that lies from a place on, and its place.
+fn numbered_from<L: Places<Record = Order>>(list: &L, start: usize, number: u32) -> Option<(usize, Order)>
+    ensures { (os : List Order) → start ≤ length (L.Places.contents list.now) → drop start (L.Places.contents list.now) ≡ held os → Found number start os result }
+{
+    for (i, place) in each_from(list, start) {
+        if let Some(order) = place {
+            if order.number == number {
+                return Some((i, order));
+            }
+        }
+    }
+    None
+}
 
 impl<L: Places<Record = Order>> Lineup<L> {
     // The order of a rank.
@@ -67,15 +81,11 @@ impl<L: Places<Record = Order>> Lineup<L> {
     fn find(&self, side: Side, number: u32) -> Option<(usize, Order)>
         ensures { (b : Book) → Lies (L.Places.contents self.now.mirrored.list) self.now.state b → Found number (self.now.state.capacity - count side self.now.state) (side_of side b) result }
     {
-        // The loop counts, since the place is part of the answer.
-        for i in self.state.start(side)..self.state.capacity {
-            if let Some(order) = self.get(side, i) {
-                if order.number == number {
-                    return Some((i, order));
-                }
-            }
+        let start = self.state.start(side);
+        match side {
+            Side::Sell => numbered_from(&self.mirrored.list, start, number),
+            Side::Buy => numbered_from(&self.mirrored, start, number),
         }
-        None
     }
 
     // Where the order of a number rests.
