@@ -7,5 +7,5 @@ mod moves;
 mod price;
 mod sides;
 pub mod state;
-mod sums;
+pub mod sums;
 mod sweep;

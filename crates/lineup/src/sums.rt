@@ -20,7 +20,7 @@ fn tonnes_within(place: Option<Order>, side: Side, limit: u32) -> u32
 }
 
 // The tonnes that lie within the limit from a place on, or the most that the number holds.
-fn tonnes_from<L: Places<Record = Order>>(list: &L, start: usize, side: Side, limit: u32) -> u32
+pub fn sum_within<L: Places<Record = Order>>(list: &L, start: usize, side: Side, limit: u32) -> u32
     ensures { result ≡ min (worth side limit (drop start (L.Places.contents list.now))) (2 ^ 32 - 1) }
 {
     let mut sum: u32 = 0;
@@ -38,8 +38,8 @@ impl<L: Places<Record = Order>> Lineup<L> {
         let seer = side.opposite();
         let start = self.state.start(seer);
         match seer {
-            Side::Sell => tonnes_from(&self.mirrored.list, start, side, limit),
-            Side::Buy => tonnes_from(&self.mirrored, start, side, limit),
+            Side::Sell => sum_within(&self.mirrored.list, start, side, limit),
+            Side::Buy => sum_within(&self.mirrored, start, side, limit),
         }
     }
 }

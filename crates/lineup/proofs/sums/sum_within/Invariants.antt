@@ -1,6 +1,6 @@
 use Rattle.std.proofs.Common.{◌≡◌, ◌+◌, ◌-◌, ◌^◌, ◌≤◌, min, drop}
 use Rattle.lineup.specs.Layout.{worth}
-use Rattle.lineup.proofs.sums.tonnes_from.Given as goal
+use Rattle.lineup.proofs.sums.sum_within.Given as goal
 
 abbrev pub invariant-loop-place : goal.invariant-loop-place
 invariant-loop-place g l =
