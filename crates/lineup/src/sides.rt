@@ -17,7 +17,11 @@ use ranking::sequence::insertion_keeps_sequence;
 
 // The order of a number that lies from a place on, and its place. `matching` has its like for places in no sequence: what each promises
 // is said of what it knows of the places.
-fn numbered_from<L: Places<Record = Order>>(list: &L, start: usize, number: u32) -> Option<(usize, Order)>
+fn numbered_from<L: Places<Record = Order>>(
+    list: &L,
+    start: usize,
+    number: u32,
+) -> Option<(usize, Order)>
     ensures { (os : List Order) → start ≤ length (L.Places.contents list.now) → drop start (L.Places.contents list.now) ≡ held os → Found number start os result }
 {
     for (i, place) in each_from(list, start) {
