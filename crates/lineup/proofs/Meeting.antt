@@ -1,8 +1,8 @@
 -- The orders that a sweep meets, by their places. Assumes nothing.
-use Rattle.std.proofs.Common.{◌≡◌, ℕ, ◌+◌, ◌-◌, ◌^◌, ◌<◌, ◌≤◌, min, List, [], ◌∷◌, ◌++◌, reverse, length, get_or, replicate, sym, refl, ap, ◌∙◌, append_assoc, arith, length-append, Option, None, Some}
+use Rattle.std.proofs.Common.{◌≡◌, ℕ, ◌+◌, ◌-◌, ◌^◌, ◌<◌, min, List, [], ◌∷◌, ◌++◌, reverse, length, get_or, replicate, sym, refl, ap, ◌∙◌, append_assoc, arith, length-append, Option, None, Some}
 use mathlib.Core.List.{reverse-cons}
 use lib.ListN.{length-map, length-reverse}
-use Rattle.std.proofs.lemmas.List.{map-append, get_or_at, get_or-append_right, length_push, nil_from_length}
+use Rattle.std.proofs.lemmas.List.{map-append, get_or_at, nil_from_length}
 use Rattle.orders.specs.declared.request.Side.TheVariants.{Buy, Sell}
 use Rattle.orders.specs.declared.order.Order.{Order}
 use Rattle.plain.specs.Rule.{Rule, Lawful}
@@ -14,7 +14,7 @@ use Rattle.lineup.specs.declared.sweep.Sweep.{Sweep}
 use Rattle.lineup.specs.Layout.{held}
 use Rattle.lineup.specs.Lying.{Lies}
 use Rattle.lineup.specs.Sweeps.{SweptBy}
-use Rattle.lineup.proofs.Laying.{before, own_after, gap_left, starts_at}
+use Rattle.lineup.proofs.Laying.{gap_left}
 use Rattle.lineup.proofs.Sweeping.{sweep_from, swept_none}
 
 held_reverse : (os : List Order) → reverse (held os) ≡ held (reverse os)

@@ -22,8 +22,10 @@ impl<L: Places<Record = Order>, R: Priority> Ranked<L, R> {
         if fills.len() < self.lineup.state.capacity {
             return Err(Cause::FillListShort);
         }
-        if self.lineup.state.phase == Phase::Dealing {
-            return Err(Cause::WrongPhase);
+        // A match and no `==`, since what a call comes to is said by the case of the phase.
+        match self.lineup.state.phase {
+            Phase::Dealing => return Err(Cause::WrongPhase),
+            Phase::Gathering => {}
         }
         self.rule.is_lawful();
         let quote = self.lineup.quote();
