@@ -34,7 +34,7 @@ fn print_book<K: Kind, R: Priority + Drop>(
     let Ok(lines) = day_lines(rt.alloc(), file, kind, rule) else {
         return Err(anyhow!("out of memory"));
     };
-    // Three programs print their lines so: a public function for it could promise nothing of what is printed.
+    // Three programs read a file and print lines so: a public function for it could promise nothing of what is printed.
     rt.println(name)?;
     rt.println("grain 1")?;
     for line in lines.as_slice() {

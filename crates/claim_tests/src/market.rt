@@ -42,7 +42,7 @@ pub fn send_all<V: Venue>(rt: &impl Abort, venue: &mut V, rows: &[Row]) -> Resul
     Ok(())
 }
 
-// The number of the refusal that a claim gets of its check or of a ledger, if it is not booked.
+// The number of the refusal that a claim gets of its check or of a ledger, as the formats have it, if it is not booked.
 pub fn booked<V: Venue>(
     heap: Global,
     venue: &V,

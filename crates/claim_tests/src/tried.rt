@@ -27,7 +27,7 @@ fn called(price: u32, volume: u32) -> Subject {
     Subject::Call { price, volume }
 }
 
-// Puts fills forward for a subject, another each time, that must be refused by a number, or else booked.
+// Puts fills forward for a subject: they must be refused by a number, or else booked.
 fn put<V: Venue>(
     rt: &impl Abort,
     heap: Global,

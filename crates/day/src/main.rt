@@ -19,7 +19,7 @@ fn run(rt: &HostRuntime) -> anyhow::Result<()> {
     let Ok(lines) = day_lines(rt.alloc(), file.as_slice(), &OnRanked, Time) else {
         return Err(anyhow!("out of memory"));
     };
-    // Three programs print their lines so: a public function for it could promise nothing of what is printed.
+    // Three programs read a file and print lines so: a public function for it could promise nothing of what is printed.
     rt.println("grain 1")?;
     for line in lines.as_slice() {
         rt.println(line)?;

@@ -33,10 +33,7 @@ impl Caps {
         ensures caps { result.caps ≡ replicate 64 1000 }
         ensures held { result.held ≡ replicate 64 0 }
     {
-        Caps {
-            caps: [1000; 64],
-            held: [0; 64],
-        }
+        Caps::new([1000; 64])
     }
 
     // Takes tonnes off what their member holds.
@@ -58,6 +55,7 @@ struct Tonnage {
 }
 
 impl Tonnage {
+    // No tonnes: to take them off a member changes nothing, so this stands for nobody's.
     const NONE: Tonnage = Tonnage {
         member: 0,
         tonnes: 0,

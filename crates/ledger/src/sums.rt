@@ -9,7 +9,7 @@ use orders::request::Side;
 const LIMIT: u64 = 1_000_000_000_000;
 
 // A row with more on a side; a total past the largest number stays there.
-// Not by adding two rows: the numbers of a row that is read from the list were not known to fit, once it was handed to `add`.
+// Not by adding two rows: of a row that is read from the list and handed to `add`, the proof doesn't know that its numbers fit.
 fn raise(row: Row, side: Side, tonnes: u64, pence: u64) -> Row
     ensures { result ≡ raised side tonnes pence row }
 {

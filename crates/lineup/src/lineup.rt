@@ -15,6 +15,7 @@ use ranking::sequence::insert as insert_at;
 
 // The orders of both sides in one list of places. A side sees its own orders at the end of the list,
 // the best first: the sells in the list itself, the buys in the list from its end.
+// Which plain book it lies as is no part of it, so each clause says so of every book that it lies as, and no invariant does.
 #[derive(Drop)]
 pub struct Lineup<L> {
     pub mirrored: Mirrored<L>,
@@ -34,8 +35,8 @@ impl<L: Places<Record = Order>> Lineup<L> {
         }
     }
 
-    // What a side sees in a place. Each of the four functions from here on picks the list or its mirror, which are of
-    // two types: no closure takes either, and a trait for it has more lines than the four choices.
+    // What a side sees in a place. Each function from here on, `reach` and `find` pick the list or its mirror, which are of
+    // two types: no closure takes either, and a trait for it has more lines than the choices.
     pub(crate) fn get(&self, side: Side, i: usize) -> Option<Order>
         ensures { result ≡ slice_index_or (seen side (L.Places.contents self.now.mirrored.list)) i None }
     {

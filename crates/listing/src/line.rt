@@ -30,16 +30,7 @@ impl fmt::Display for Line {
             ),
             Line::Called(count, a) => write!(f, "{} call {} {}", count, a.price, a.volume),
             Line::Halted(count) => write!(f, "{} halt", count),
-            Line::Refused(count, refusal) => match refusal.height {
-                Some(height) => write!(
-                    f,
-                    "{} refused {} at {}",
-                    count,
-                    refusal.cause.number(),
-                    height
-                ),
-                None => write!(f, "{} refused {} at -", count, refusal.cause.number()),
-            },
+            Line::Refused(count, refusal) => write!(f, "{count} refused {refusal}"),
             Line::Filled(fill) => write!(
                 f,
                 "fill {} {} {} {}",

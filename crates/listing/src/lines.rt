@@ -26,7 +26,6 @@ fn answer_line(count: usize, answer: &Answer) -> Line
 }
 
 // Adds a line for each of so many fills from the front of a list.
-// The count of a record is an argument beside the lines here and below: it is another for each record.
 fn push_fills(lines: &mut Vec<Line>, fills: &[Fill], count: usize) -> Result<(), AllocError>
     ensures { OnOk result (lines.new.items ≡ lines.old.items ++ map Filled (take count fills.now)) }
 {
@@ -37,7 +36,8 @@ fn push_fills(lines: &mut Vec<Line>, fills: &[Fill], count: usize) -> Result<(),
     Ok(())
 }
 
-// Adds the lines of a request that was admitted.
+// Adds the lines of a request that was admitted. Here and below the count of the record is an argument beside the lines: each record
+// has another.
 fn push_admitted(
     lines: &mut Vec<Line>,
     count: usize,

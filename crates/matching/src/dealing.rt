@@ -98,6 +98,7 @@ fn deal_out<L: Places<Record = Order>, R: Priority>(
 ) -> Tally
     ensures { RunOut (R.Ranking.ahead rule.now) deal.now tonnes (L.Places.contents list.old) fills.old (L.Places.contents list.new) fills.new result }
 {
+    // Counted by hand, since the count is wanted after the loop too.
     let mut count: usize = 0;
     let mut left = tonnes;
     for place in fills.iter_mut() {

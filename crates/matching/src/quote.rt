@@ -41,7 +41,7 @@ pub fn best_quote<L: Places<Record = Order>>(list: &L) -> Quote
     ensures { result ≡ best_quote (L.contents list.now) }
 {
     let mut best = quote_at(list, 1);
-    for place in each(list) {
+    for (_, place) in each(list) {
         best = better_of(list, best, step_at(place));
     }
     best

@@ -6,14 +6,14 @@ ghost use Rattle.matching.specs.Scans.{VacantIn, NumberedIn, opposite, tonnes_if
 use orders::order::Order;
 use orders::request::Side;
 use ranking::finding::{Test, first_where};
-use ranking::places::{Places, each, each_from};
+use ranking::places::{Places, each};
 use ranking::rank::Priority;
 
 // A vacant place, if there is one.
 pub fn vacant<L: Places<Record = Order>>(list: &L) -> Option<usize>
     ensures { VacantIn (L.contents list.now) (length (L.contents list.now)) result }
 {
-    for (i, place) in each_from(list, 0) {
+    for (i, place) in each(list) {
         if place.is_none() {
             return Some(i);
         }
@@ -25,7 +25,7 @@ pub fn vacant<L: Places<Record = Order>>(list: &L) -> Option<usize>
 pub fn numbered<L: Places<Record = Order>>(list: &L, number: u32) -> Option<(usize, Order)>
     ensures { NumberedIn number (L.contents list.now) (length (L.contents list.now)) result }
 {
-    for (i, place) in each_from(list, 0) {
+    for (i, place) in each(list) {
         if let Some(o) = place {
             if o.number == number {
                 return Some((i, o));
@@ -60,13 +60,14 @@ fn add_opposite(sum: u32, wanted: &Opposite, place: Option<Order>) -> u32
     }
 }
 
-// The tonnes that rest opposite, or the largest number if they are more.
+// The tonnes that rest opposite, or the largest number if they are more. `lineup` sums from a place on, where all are of one side,
+// and `replay` sums a list of orders: what they share is which price is reached.
 pub fn tonnes_opposite<L: Places<Record = Order>>(list: &L, side: Side, limit: u32) -> u32
     ensures { result ≡ capped (held_weight (tonnes_if (opposite side limit)) (L.contents list.now)) }
 {
     let wanted = Opposite { side, limit };
     let mut sum = 0;
-    for place in each(list) {
+    for (_, place) in each(list) {
         sum = add_opposite(sum, &wanted, place);
     }
     sum
@@ -100,7 +101,7 @@ fn count_ahead<L: Places<Record = Order>, R: Priority>(list: &L, rule: &R, o: &O
     ensures { result ≡ held_weight (ahead_of (R.Ranking.ahead rule.now) o.now) (L.Places.contents list.now) }
 {
     let mut n: usize = 0;
-    for (_, place) in each_from(list, 0) {
+    for (_, place) in each(list) {
         n += one_ahead(rule, o, place);
     }
     n
@@ -116,7 +117,7 @@ pub fn with_ahead<L: Places<Record = Order>, R: Priority>(
     ensures { RankedIn (R.Ranking.ahead rule.now) side rank (L.Places.contents list.now) (length (L.Places.contents list.now)) result }
 {
     let ahead = rank.checked_sub(1)?;
-    for place in each(list) {
+    for (_, place) in each(list) {
         if let Some(o) = place {
             if o.side == side && count_ahead(list, rule, &o) == ahead {
                 return Some(o);

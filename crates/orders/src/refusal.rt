@@ -70,6 +70,17 @@ impl Cause {
     }
 }
 
+// Its number, and the height or a dash.
+impl fmt::Display for Refusal {
+    fn fmt<W: fmt::Write>(&self, f: &mut fmt::Formatter<W>) -> fmt::Result {
+        let number = self.cause.number();
+        match self.height {
+            Some(height) => write!(f, "{number} at {height}"),
+            None => write!(f, "{number} at -"),
+        }
+    }
+}
+
 impl fmt::Display for Cause {
     fn fmt<W: fmt::Write>(&self, f: &mut fmt::Formatter<W>) -> fmt::Result {
         f.write_str(self.name())

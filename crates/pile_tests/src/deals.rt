@@ -87,6 +87,7 @@ enum Scenario {
 impl Scenario {
     const ALL: [Scenario; 3] = [Scenario::Calls, Scenario::Minimums, Scenario::Refusals];
 
+    // A switch, since what is tried is a function of every kind of venue, and no closure is.
     fn play<V: Venue>(self, rt: &impl Abort, venue: &mut V) -> Result<(), Fail> {
         match self {
             Scenario::Calls => calls(rt, venue),

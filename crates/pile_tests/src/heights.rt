@@ -95,10 +95,7 @@ fn refused_layers(rt: HostRuntime) -> Result<(), Fail> {
 type Five<V> = Relay<Relay<Relay<Relay<Relay<V>>>>>;
 
 fn relay<V: Venue + Drop>(below: V) -> Result<Relay<V>, Fail> {
-    match Relay::over(below) {
-        Ok(relay) => Ok(relay),
-        Err(_) => Err(Fail::new("no relay")),
-    }
+    Relay::over(below).map_err(|_| Fail::new("no relay"))
 }
 
 fn five<V: Venue + Drop>(below: V) -> Result<Five<V>, Fail> {
@@ -117,10 +114,7 @@ struct Raised<K>(K);
 impl<K: Then + Drop> Then for Raised<K> {
     fn then<V: Venue + Drop, A: Abort>(self, rt: &A, venue: V) -> Result<(), Fail> {
         let Raised(next) = self;
-        match five(venue) {
-            Ok(pile) => next.then(rt, pile),
-            Err(fail) => Err(fail),
-        }
+        next.then(rt, five(venue)?)
     }
 }
 

@@ -35,7 +35,7 @@ pub fn cancel(member: u8, number: u32) -> Row {
     Row::Withdraw(CancelRow { member, number })
 }
 
-// An empty book of a kind.
+// An empty book of a kind. Helpers that `claim_tests` has too are a few lines each, and the two crates differ in what else they test.
 pub fn opened<L: Places<Record = Order> + Drop, R: Priority + Drop, B: Book<L, R>>(
     list: L,
     rule: R,
@@ -57,7 +57,7 @@ pub fn send<V: Venue>(
     Ok(venue.serve(Request::try_from(row)?, fills))
 }
 
-// The number of the refusal that a row gets, if it is refused, and the height that gave it.
+// The number of the refusal that a row gets, as the formats have it, and the height that gave it, if the row is refused.
 pub fn refusal<V: Venue>(venue: &mut V, row: &Row) -> Result<Option<(u8, Option<u8>)>, Fail> {
     let mut fills = [Fill::BLANK; 8];
     match send(venue, row, &mut fills)? {

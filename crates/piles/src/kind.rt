@@ -12,7 +12,7 @@ use venue::step::Step;
 
 // A kind of book, whatever list of places it is over: what a day's pile can be run on.
 pub trait Kind {
-    // Runs steps through the day's pile over a fresh book of the kind. List, rule and steps are three things of three owners.
+    // Runs steps through the day's pile over a fresh book of the kind. The list and the rule go into the book, and the steps are lent.
     fn run<L: Places<Record = Order> + Drop, R: Priority + Drop>(
         &self,
         list: L,

@@ -39,6 +39,7 @@ impl Quote {
         }
     }
 
+    // By its tests and no `Ord`, which would say that two quotes of one rank are equal.
     fn is_preferred_to(&self, other: &Quote) -> bool
         ensures { result ≡ preferred_to self.now other.now }
     {

@@ -17,7 +17,7 @@ pub struct Turn {
     pub tonnes: u32,
 }
 
-// Deals up to n tonnes with the best order of a side, if there is one. The tonnes are others at each turn.
+// Deals up to n tonnes with the best order of a side, if there is one. How many they may be changes from turn to turn.
 pub(crate) fn take_turn<L: Places<Record = Order>>(
     lineup: &mut Lineup<L>,
     side: Side,

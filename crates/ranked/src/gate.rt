@@ -10,8 +10,8 @@ use orders::order::{Order, Phase};
 use orders::refusal::Cause;
 use ranking::places::Places;
 
-// The tonnes in an entry's reach, or the most that the number holds. An entry is an argument beside the lineup here and below,
-// since it is another for each request.
+// The tonnes in an entry's reach, or the most that the number holds.
+// Here and below the entry is an argument beside the lineup: each request brings another one.
 pub(crate) fn reach<L: Places<Record = Order>>(lineup: &Lineup<L>, entry: &Entry) -> u32
     ensures { (b : Book) → Lies (L.Places.contents lineup.now.mirrored.list) lineup.now.state b → result ≡ min (reachOf entry.now b) (2 ^ 32 - 1) }
 {

@@ -9,7 +9,7 @@ use orders::order::{Fill, Order};
 use orders::request::Side;
 
 // Whether an entry that goes by a number has its minimum within its reach of the other side's orders, and deals these fills.
-// What the list holds after it is of no use.
+// What the list holds after it is of no use: it is lent so that those within reach can be moved to its front and counted.
 pub fn entry_agrees(entry: &Entry, number: u32, resting: &mut [Order], fills: &[Fill]) -> bool
     ensures { result ≡ entry_agrees entry.now number resting.old fills.now }
 {

@@ -2,7 +2,7 @@ use orders::refusal::Cause;
 use orders::request::Request;
 use orders::row::{CancelRow, EntryRow, Row};
 
-// The number of the refusal that a row gives, if it gives one.
+// The number of the refusal that a row gives, as the formats have it, if it gives one.
 fn refusal(row: &Row) -> Option<u8> {
     Request::try_from(row).err().map(Cause::number)
 }

@@ -55,8 +55,8 @@ fn settle_over<L: Places<Record = Order> + Drop, M: Places<Record = Order> + Dro
     requires empty { ledger.old.rows ≡ replicate 64 nothing }
     ensures { MatchResult result (λ settled. IfOk settled (λ notes. Clear (day_setup time 8) records.now ledger.new.rows notes.items)) (λ _. ⊥) }
 {
-    let shelf = Shelf::over(list, Time).map_err(|refused| refused.cause)?;
-    let ranked = open(other, Time).map_err(|refused| refused.cause)?;
+    let shelf = Shelf::over(list, Time)?;
+    let ranked = open(other, Time)?;
     Ok(settle_between(heap, shelf, ranked, ledger, records))
 }
 

@@ -6,7 +6,7 @@ use crate::line::Line;
 use ledger::row::Row;
 use ledger::standing::{Standing, rank_members};
 use ledger::totals::Ledger;
-use ranking::places::each_from;
+use ranking::places::each;
 use settling::fault::Noted;
 use std::alloc::{AllocError, Global};
 
@@ -33,7 +33,7 @@ fn push_standing(lines: &mut Vec<Line>, ledger: &Ledger) -> Result<(), AllocErro
     ensures { OnOk result (StandingLines ledger.now.rows lines.old.items lines.new.items) }
 {
     let board = rank_members(ledger);
-    for (i, place) in each_from(&board, 0) {
+    for (i, place) in each(&board) {
         push_place(lines, i + 1, place)?;
     }
     lines.push(Line::Total(ledger.sum()))?;

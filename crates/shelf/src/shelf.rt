@@ -21,7 +21,8 @@ use ranking::rank::Priority;
 use venue::book::Refused;
 use venue::venue::Venue;
 
-// Orders that lie in any places, in no sequence.
+// Orders that lie in any places, in no sequence. What it is asked it answers as the plain book does, and as the ranked book does:
+// the two share that meaning and the words of `orders`, and not how each finds an answer in what it keeps.
 #[derive(Drop)]
 pub struct Shelf<L, R> {
     list: L,

@@ -9,7 +9,7 @@ use orders::refusal::Cause;
 use ranking::places::Places;
 use ranking::rank::Priority;
 
-// What a shelf admits.
+// What a shelf admits: the tests of `plain`'s gate, which the ranked book makes of what it keeps.
 impl<L: Places<Record = Order>, R: Priority> Shelf<L, R> {
     fn is_full(&self) -> bool
         ensures { result ≡ is_full (L.Places.contents self.now.list) }

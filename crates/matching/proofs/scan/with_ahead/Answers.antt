@@ -12,13 +12,13 @@ pub returns-then-count_ahead-ahead : goal.returns-then-count_ahead-ahead
 returns-then-count_ahead-ahead g c =
     let ps = g.L.Places.contents c.args.list.now in
     let wanted = HasRank (g.R.Ranking.ahead c.args.rule.now) c.args.side c.args.rank ps in
-    (seen_one wanted ps c.in-Some-place.o _ (rw (c.in-Some.ensures.steps, c.in-Some-place.is) at c.loop-place.invariant), (search rules, search rules))
+    (seen_one wanted ps c.in-Some-place.o _ (rw (c.in-Some.ensures.steps.1.5, c.in-Some-place.is) at c.loop-place.invariant), (search rules, search rules))
 
 pub loop-place-preserved-else-eq : goal.loop-place-preserved-else-eq
 loop-place-preserved-else-eq g c =
     let ps = g.L.Places.contents c.args.list.now in
     let wanted = HasRank (g.R.Ranking.ahead c.args.rule.now) c.args.side c.args.rank ps in
-    seen_more wanted ps c.in-Some.place _ (rw c.in-Some.ensures.steps at c.loop-place.invariant)
+    seen_more wanted ps c.in-Some.place _ (rw c.in-Some.ensures.steps.1.5 at c.loop-place.invariant)
     (λ y is ranked.
     let same = same_Some _ _ (sym c.in-Some-place.is ∙ is) in
     elim c.else-eq.branch [
@@ -33,5 +33,5 @@ loop-place-preserved-else-eq g c =
 pub loop-place-preserved : goal.loop-place-preserved
 loop-place-preserved g c =
     let ps = g.L.Places.contents c.args.list.now in
-    seen_more (HasRank (g.R.Ranking.ahead c.args.rule.now) c.args.side c.args.rank ps) ps c.in-Some.place _ (rw c.in-Some.ensures.steps at c.loop-place.invariant)
+    seen_more (HasRank (g.R.Ranking.ahead c.args.rule.now) c.args.side c.args.rank ps) ps c.in-Some.place _ (rw c.in-Some.ensures.steps.1.5 at c.loop-place.invariant)
     (λ y is _. c.in_default.not-Some y is)
