@@ -42,6 +42,7 @@ fn run(rt: &HostRuntime) -> anyhow::Result<()> {
     Ok(())
 }
 
+// A switch of two arms, since reading and serving are set up from different things.
 fn measure(rt: &HostRuntime, words: Words, file: &[u8]) -> anyhow::Result<Rounds> {
     let least = Duration::from_millis(words.milliseconds);
     match words.kind {

@@ -1,4 +1,4 @@
-use Rattle.std.proofs.Common.{rules, ◌≡◌, ◌+◌, [], ◌∷◌, ◌++◌, map, Some, vec_items, sym, ap, ◌∙◌, append_assoc, append-nil}
+use Rattle.std.proofs.Common.{rules, ◌≡◌, [], ◌∷◌, ◌++◌, map, Some, vec_items, sym, ap, ◌∙◌, append_assoc, append-nil}
 use Rattle.settlement.specs.declared.line.Line.TheVariants.{Total}
 use Rattle.settlement.specs.Lines.{member_lines}
 use Rattle.settlement.proofs.Ranks.{place_lines, held_lines}
