@@ -17,6 +17,16 @@ member_within Sell pence [] e m = omega arith
 member_within s u (r ∷ rs) e zero = row_within_lem s u r (and_parts (row_within r) (all_within rs) e).0
 member_within s u (r ∷ rs) e (suc m) = member_within s u rs (and_parts (row_within r) (all_within rs) e).1 m
 
+-- two rows added up, without a largest number
+abbrev pub plus : Row → Row → Row
+plus a b = record { bought = a.bought + b.bought; sold = a.sold + b.sold; pay = a.pay + b.pay; receive = a.receive + b.receive }
+
+plus_total : (s : Side) (u : UnitOf) (a b : Row) → total s u (plus a b) ≡ total s u a + total s u b
+plus_total Buy tonnes a b = refl
+plus_total Buy pence a b = refl
+plus_total Sell tonnes a b = refl
+plus_total Sell pence a b = refl
+
 added_total : (s : Side) (u : UnitOf) (a b : Row) → total s u (added a b) ≡ capped (total s u a + total s u b)
 added_total Buy tonnes a b = refl
 added_total Buy pence a b = refl
@@ -40,16 +50,34 @@ module _ (rows : List Row) (within : all_within rows ≡ true) where
       none Sell pence = refl
 
   -- one more row fits
-  sum_fits : (n : ℕ) (sum row : Row) → Summed rows n sum → row ≡ row_of rows n → n < 64 → (s : Side) (u : UnitOf) → total s u sum + total s u row ≤ 64 * limit
+  pub sum_fits : (n : ℕ) (sum row : Row) → Summed rows n sum → row ≡ row_of rows n → n < 64 → (s : Side) (u : UnitOf) → total s u sum + total s u row ≤ 64 * limit
   sum_fits n sum row so is few s u =
       let own = ap (total s u) is in
       let high = member_within s u rows within n in
       let before = so.low s u in
       omega arith
 
-  pub summed_more : (n : ℕ) (sum row : Row) → Summed rows n sum → row ≡ row_of rows n → n < 64 → Summed rows (n + 1) (added sum row)
+  -- a sum without a largest number
+  pub summed_more : (n : ℕ) (sum row : Row) → Summed rows n sum → row ≡ row_of rows n → Summed rows (n + 1) (plus sum row)
   unfolding over_members
-  summed_more n sum row so is few = record {
+  summed_more n sum row so is = record {
+    sums = λ s u.
+        let here = plus_total s u sum row in
+        let own = ap (total s u) is in
+        let before = so.sums s u in
+        rw add-one (omega arith);
+    low = λ s u.
+        let here = plus_total s u sum row in
+        let own = ap (total s u) is in
+        let high = member_within s u rows within n in
+        let before = so.low s u in
+        omega arith;
+  }
+
+  -- a sum that stays at the largest number, which no sum of members' rows passes
+  pub summed_added : (n : ℕ) (sum row : Row) → Summed rows n sum → row ≡ row_of rows n → n < 64 → Summed rows (n + 1) (added sum row)
+  unfolding over_members
+  summed_added n sum row so is few = record {
     sums = λ s u.
         let here = added_total s u sum row in
         let fits = sum_fits n sum row so is few s u in

@@ -11,7 +11,7 @@ pub seen_length : {X : Type 0} (side : Side) (xs : List X) → length (seen side
 seen_length Buy xs = length-reverse xs
 seen_length Sell xs = refl
 
-reverse_set : {X : Type 0} (xs : List X) (i : ℕ) (x : X) → i < length xs → reverse (set xs (length xs - 1 - i) x) ≡ set (reverse xs) i x
+pub reverse_set : {X : Type 0} (xs : List X) (i : ℕ) (x : X) → i < length xs → reverse (set xs (length xs - 1 - i) x) ≡ set (reverse xs) i x
 reverse_set xs i x l =
     let n = length xs in
     let j = n - 1 - i in

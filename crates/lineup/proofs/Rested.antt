@@ -36,7 +36,7 @@ inserted_is : (rule : Rule) (o : Order) (os : List Order) → inserted rule o os
 inserted_is rule o [] = refl
 inserted_is rule o (x ∷ xs) = ap (λ ys. cond (rule o x) (o ∷ x ∷ xs) (x ∷ ys)) (inserted_is rule o xs)
 
-put_among : (rule : Rule) (key : Order → ℕ) → Inserts key rule → (o : Order) (front : List (Option Order)) (y : Option Order) (os : List Order) →
+pub put_among : (rule : Rule) (key : Order → ℕ) → Inserts key rule → (o : Order) (front : List (Option Order)) (y : Option Order) (os : List Order) →
     inserted_at rule (length front) o (front ++ y ∷ held os) ≡ front ++ held (placed rule o os)
 put_among rule key inserts o front y os = inserts.among front y os o ∙ ap (λ xs. front ++ held xs) (inserted_is rule o os)
 

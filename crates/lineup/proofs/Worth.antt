@@ -10,7 +10,7 @@ use Rattle.lineup.specs.Layout.{seen, held, worth}
 use Rattle.lineup.specs.Lying.{Lies, count}
 use Rattle.lineup.proofs.Laying.{own_from}
 
-worth_held : (t : Side) (limit : ℕ) (os : List Order) → worth t limit (held os) ≡ total (keep (within t limit) os)
+pub worth_held : (t : Side) (limit : ℕ) (os : List Order) → worth t limit (held os) ≡ total (keep (within t limit) os)
 worth_held t limit [] = refl
 worth_held t limit (o ∷ os) = ap (λ n. cond (within t limit o) o.remaining 0 + n) (worth_held t limit os) ∙ sym (total_keep (within t limit) o os)
 

@@ -46,7 +46,13 @@ impl Test<Order> for Opposite {
     ghost passing = { λ s. opposite s.side s.limit };
 
     fn passes(&self, o: &Order) -> bool {
-        o.side == self.side.opposite() && self.side.reaches(self.limit, o.price)
+        // By the case of both sides, since a search asks this of each order in a list: one test of the sides for both cases, and one
+        // `reaches`, took a search of many places half as long again.
+        match (self.side, o.side) {
+            (Side::Buy, Side::Sell) => Side::Buy.reaches(self.limit, o.price),
+            (Side::Sell, Side::Buy) => Side::Sell.reaches(self.limit, o.price),
+            _ => false,
+        }
     }
 }
 

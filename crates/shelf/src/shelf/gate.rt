@@ -17,11 +17,12 @@ impl<L: Places<Record = Order>, R: Priority> Shelf<L, R> {
         vacant(&self.list).is_none()
     }
 
-    // Whether an entry finds less than its minimum.
+    // Whether an entry finds less than its minimum: one with none never does, and nothing is summed for it.
     fn falls_short(&self, e: &Entry) -> bool
         ensures { result ≡ falls_short self.now.phase e.now (L.Places.contents self.now.list) }
     {
         self.phase == Phase::Dealing
+            && e.minimum() > 0
             && tonnes_opposite(&self.list, e.side(), e.price()) < e.minimum()
     }
 

@@ -1,5 +1,5 @@
 use Rattle.std.proofs.Common.{◌≡◌, refl, arith}
-use Rattle.ledger.proofs.Summing.{summed_none, summed_more}
+use Rattle.ledger.proofs.Summing.{summed_none, summed_added}
 use Rattle.ledger.proofs.totals.Ledger.sum.Goals as goal
 
 pub loop-row-init : goal.loop-row-init
@@ -7,7 +7,7 @@ loop-row-init c = summed_none c.args.self.now.rows c.args.self.now.within
 
 pub loop-row-preserved : goal.loop-row-preserved
 loop-row-preserved c =
-    rw c.add-sum.ensures (summed_more c.args.self.now.rows c.args.self.now.within c.loop-row.row-index c.loop-row.sum _ c.loop-row.invariant refl c.loop-row-test.true)
+    rw c.add-sum.ensures (summed_added c.args.self.now.rows c.args.self.now.within c.loop-row.row-index c.loop-row.sum _ c.loop-row.invariant refl c.loop-row-test.true)
 
 pub returns : goal.returns
 returns c =
